@@ -1,0 +1,4 @@
+pub mod Fields
+pub mod Extensions
+pub mod Inverses
+pub mod Coordinates

@@ -1,0 +1,699 @@
+#!/usr/bin/env python3
+"""Writes the calculator's test cases and their answers.
+
+    make_cases.py           write crates/calc/stdin and crates/calc/stdout
+    make_cases.py --check   write nothing; fail if the stored files differ
+
+The answers come from second_calculation. Where the answer is known without it
+(by hand, or from the rules of the language) the case states it, and a
+disagreement stops this script. The cases are the same in every run.
+"""
+
+import io
+import itertools
+import os
+import sys
+
+sys.dont_write_bytecode = True
+
+import second_calculation as second  # noqa: E402
+
+DIRECTORY = os.path.join(os.path.dirname(os.path.abspath(__file__)), "..", "crates", "calc")
+
+MODULI = (4093, 1021)
+COUNTS = {"prime": 1, "short": 2, "long": 8, "poly": 8}
+FORMS = [(family, q) for q in MODULI for family in COUNTS]
+LONG_POWERS = (0, 4, 2, 6, 1, 5, 3, 7)
+THIRTY_DIGITS = 123456789012345678901234567890
+
+NO_FORM = "? no such form"
+NO_OPERATION = "? no such operation"
+WRONG_NUMBER = "? wrong number of arguments"
+NOT_A_VALUE = "? not a value"
+NOT_TEXT = "? not text"
+TOO_LONG = "? line too long"
+ZERO_INVERSE = "refused 2 0 0"
+WRONG_COUNT = "refused 3 0 0"
+
+
+def out_of_range(power):
+    return "refused 1 0 %d" % power
+
+
+def power_of(family, place):
+    return LONG_POWERS[place] if family == "long" else place
+
+
+class Draw:
+    """A linear congruential generator modulo 2^64; its high digits are used."""
+
+    def __init__(self, seed):
+        self.state = seed
+
+    def below(self, bound):
+        self.state = (self.state * 6364136223846793005 + 1442695040888963407) % 2**64
+        return (self.state >> 33) % bound
+
+    def value(self, family, q):
+        """Every coefficient nonzero, so that no place goes unnoticed."""
+        return [1 + self.below(q - 1) for _ in range(COUNTS[family])]
+
+
+class Cases:
+    def __init__(self):
+        self.lines = []
+        self.answers = []
+
+    def group(self, title):
+        self.lines.append(b"\n" if self.lines else b"")
+        self.lines.append(b"# " + title.encode("ascii") + b"\n")
+
+    def passed_over(self, line):
+        assert second.answer_line(line) is None, line
+        self.lines.append(line + b"\n")
+
+    def raw(self, line, expected=None, ending=b"\n"):
+        """A line of bytes; returns its answer."""
+        answer = second.answer_line(line + ending)
+        assert answer is not None, line
+        assert expected is None or answer == expected, (line, answer, expected)
+        self.lines.append(line + ending)
+        self.answers.append(answer)
+        return answer
+
+    def text(self, line, expected=None):
+        return self.raw(line.encode("ascii"), expected)
+
+    def ask(self, form, operation, *arguments, expected=None):
+        """A command on values given as lists or as text; expected likewise."""
+        words = ["%s-%d" % form, operation] + [notation(each) for each in arguments]
+        return self.text(" ".join(words), None if expected is None else notation(expected))
+
+
+def notation(value):
+    return value if isinstance(value, str) else ",".join(str(number) for number in value)
+
+
+def single(family, place, number):
+    """The list with this number at this place and zero elsewhere."""
+    value = [0] * COUNTS[family]
+    value[place] = number
+    return value
+
+
+def with_number(value, place, number):
+    return value[:place] + [number] + value[place + 1 :]
+
+
+def padded(start, end, length):
+    """A line of this many bytes: start, as many zeros as it takes, end."""
+    return start + b"0" * (length - len(start) - len(end)) + end
+
+
+# --- Values ------------------------------------------------------------------
+
+
+def known_answers(cases):
+    cases.group("Answers known from calculation by hand")
+    short, small = ("short", 4093), ("short", 1021)
+    cases.ask(short, "mul", [3, 5], [7, 11], expected=[131, 68])
+    cases.ask(short, "inverse", [3, 5], expected=[2296, 2995])
+    cases.ask(small, "inverse", [3, 5], expected=[747, 797])
+    cases.ask(short, "mul", [3, 5], [2296, 2995], expected=[1, 0])
+    cases.ask(small, "mul", [3, 5], [747, 797], expected=[1, 0])
+    for q in MODULI:
+        seventh, third = single("poly", 7, 1), single("poly", 3, 1)
+        cases.ask(("poly", q), "mul", seventh, third, expected=single("poly", 2, 2))
+        cases.ask(("long", q), "convert", single("long", 3, 1), expected=single("poly", 6, 1))
+        cases.ask(("long", q), "convert", single("long", 5, 1), expected=single("poly", 5, 1))
+
+
+def constants(cases):
+    cases.group("The non-residue and the square root of minus one of each form")
+    nonresidues = {"prime": [2], "short": [0, 1], "long": single("long", 4, 1), "poly": single("poly", 1, 1)}
+    roots = {4093: 1059, 1021: 374}
+    for form in FORMS:
+        family, q = form
+        root = single(family, 0, roots[q])
+        minus_one = single(family, 0, q - 1)
+        cases.ask(form, "nonresidue", expected=nonresidues[family])
+        cases.ask(form, "sqrt-minus-one", expected=root)
+        cases.ask(form, "square", root, expected=minus_one)
+        cases.ask(form, "mul", root, root, expected=minus_one)
+
+
+def random_values(cases, draw):
+    for form in FORMS:
+        family, q = form
+        zero, one = single(family, 0, 0), single(family, 0, 1)
+        cases.group("Random values in %s-%d" % form)
+        for _ in range(3):
+            a, b = draw.value(family, q), draw.value(family, q)
+            total = cases.ask(form, "add", a, b)
+            cases.ask(form, "add", b, a, expected=total)
+            product = cases.ask(form, "mul", a, b)
+            cases.ask(form, "mul", b, a, expected=product)
+        a, b, c = (draw.value(family, q) for _ in range(3))
+        negative = cases.ask(form, "neg", a, expected=[q - number for number in a])
+        cases.ask(form, "add", a, negative, expected=zero)
+        cases.ask(form, "neg", negative, expected=a)
+        cases.ask(form, "add", a, zero, expected=a)
+        cases.ask(form, "mul", a, one, expected=a)
+        cases.ask(form, "mul", zero, a, expected=zero)
+
+        cases.group("Products over sums in %s-%d" % form)
+        total = cases.ask(form, "add", a, b)
+        left = cases.ask(form, "mul", a, c)
+        right = cases.ask(form, "mul", b, c)
+        both = cases.ask(form, "add", left, right)
+        cases.ask(form, "mul", total, c, expected=both)
+
+        cases.group("Squares against products in %s-%d" % form)
+        for a in (draw.value(family, q), draw.value(family, q), [q - 1] * COUNTS[family]):
+            square = cases.ask(form, "square", a)
+            cases.ask(form, "mul", a, a, expected=square)
+
+        cases.group("Products with the non-residue in %s-%d" % form)
+        outer = cases.ask(form, "nonresidue")
+        for a in (draw.value(family, q), [q - 1] * COUNTS[family], zero):
+            product = cases.ask(form, "by-nonresidue", a)
+            cases.ask(form, "mul", a, outer, expected=product)
+
+        cases.group("Values times their inverse in %s-%d" % form)
+        for a in (draw.value(family, q), draw.value(family, q), [q - 1] * COUNTS[family], [1] * COUNTS[family]):
+            inverse = cases.ask(form, "inverse", a)
+            cases.ask(form, "mul", a, inverse, expected=one)
+            cases.ask(form, "inverse", inverse, expected=a)
+
+
+def zero_and_one(cases):
+    cases.group("Zero, one and minus one in each form")
+    for form in FORMS:
+        family, q = form
+        zero, one, minus = (single(family, 0, number) for number in (0, 1, q - 1))
+        cases.ask(form, "add", zero, zero, expected=zero)
+        cases.ask(form, "add", minus, one, expected=zero)
+        cases.ask(form, "add", minus, minus, expected=single(family, 0, q - 2))
+        cases.ask(form, "neg", zero, expected=zero)
+        cases.ask(form, "neg", one, expected=minus)
+        cases.ask(form, "mul", minus, minus, expected=one)
+        cases.ask(form, "square", zero, expected=zero)
+        cases.ask(form, "square", minus, expected=one)
+        cases.ask(form, "by-nonresidue", zero, expected=zero)
+        cases.ask(form, "inverse", one, expected=one)
+        cases.ask(form, "inverse", minus, expected=minus)
+    cases.group("All coefficients at their largest")
+    for form in FORMS:
+        family, q = form
+        largest = [q - 1] * COUNTS[family]
+        cases.ask(form, "add", largest, largest, expected=[q - 2] * COUNTS[family])
+        cases.ask(form, "neg", largest, expected=[1] * COUNTS[family])
+        cases.ask(form, "mul", largest, single(family, 0, q - 1), expected=[1] * COUNTS[family])
+
+
+def basis_products(cases):
+    for form in FORMS:
+        family, q = form
+        cases.group("Products of single coefficients, every place with every place, in %s-%d" % form)
+        for i, j in itertools.product(range(COUNTS[family]), repeat=2):
+            expected = None
+            if family != "prime":
+                # X^m times X^n is X^(m+n), or 2 X^(m+n-c) from X^c on.
+                folded, power = divmod(power_of(family, i) + power_of(family, j), COUNTS[family])
+                place = [power_of(family, p) for p in range(COUNTS[family])].index(power)
+                expected = single(family, place, 2 if folded else 1)
+            cases.ask(form, "mul", single(family, i, 1), single(family, j, 1), expected=expected)
+
+
+def nonresidue_at_each_place(cases):
+    cases.group("The non-residue times a single coefficient at each place")
+    for form in FORMS:
+        family, q = form
+        for place in range(COUNTS[family]):
+            for number in (1, q - 1):
+                cases.ask(form, "by-nonresidue", single(family, place, number))
+
+
+def inverses(cases, draw):
+    cases.group("Zero has no inverse")
+    for form in FORMS:
+        family, q = form
+        cases.ask(form, "inverse", single(family, 0, 0), expected=ZERO_INVERSE)
+        cases.ask(form, "inverse", ",".join(["000"] * COUNTS[family]), expected=ZERO_INVERSE)
+    cases.group("Inverses of values with a single nonzero coefficient, at each place")
+    for form in FORMS:
+        family, q = form
+        one = single(family, 0, 1)
+        for place in range(COUNTS[family]):
+            for number in (1, q - 1, 2 + draw.below(q - 3)):
+                value = single(family, place, number)
+                inverse = cases.ask(form, "inverse", value)
+            cases.ask(form, "mul", inverse, value, expected=one)
+    cases.group("Inverses of values with zeros in one half, one quarter or every other place")
+    for form in FORMS:
+        family, q = form
+        if COUNTS[family] != 8:
+            continue
+        one = single(family, 0, 1)
+        for kept in ("11110000", "00001111", "11000000", "00110000", "00001100", "00000011", "10101010", "01010101", "10001000", "01111111", "11111110"):
+            value = [number * int(digit) for number, digit in zip(draw.value(family, q), kept)]
+            inverse = cases.ask(form, "inverse", value)
+            cases.ask(form, "mul", value, inverse, expected=one)
+
+
+def edges(cases, draw):
+    for form in FORMS:
+        family, q = form
+        cases.group("The edges of the range at each place in %s-%d (refused with the power of X)" % form)
+        for place in range(COUNTS[family]):
+            value = draw.value(family, q)
+            for number in (0, 1, q - 1):
+                edge = with_number(value, place, number)
+                cases.ask(form, "neg", edge, expected=[-each % q for each in edge])
+            for number in (q, 65535, 65536, THIRTY_DIGITS):
+                cases.ask(form, "neg", with_number(value, place, number), expected=out_of_range(power_of(family, place)))
+
+
+def wider_numbers(cases):
+    cases.group("Numbers that would be other numbers if cut to 8, 16, 32, 64 or 128 binary digits")
+    for form in FORMS:
+        family, q = form
+        last = COUNTS[family] - 1
+        cases.ask(form, "neg", single(family, last, 256 + 5), expected=single(family, last, q - 261))
+        for digits in (16, 32, 64, 128):
+            number = 2**digits + 5
+            cases.ask(form, "neg", single(family, last, number), expected=out_of_range(last))
+    cases.group("Numbers between one modulus and the other")
+    for family in COUNTS:
+        for number in (1021, 2000, 4092):
+            value = single(family, 0, number)
+            cases.ask((family, 4093), "add", value, single(family, 0, 0), expected=value)
+            cases.ask((family, 1021), "add", value, single(family, 0, 0), expected=out_of_range(0))
+    cases.group("Numbers that are zero or one modulo q are out of range all the same")
+    for form in FORMS:
+        family, q = form
+        for number in (q, q + 1, 2 * q, 16 * q, 17 * q + 1, q * 10**27):
+            cases.ask(form, "square", single(family, 0, number), expected=out_of_range(0))
+        cases.ask(form, "inverse", single(family, 0, q), expected=out_of_range(0))
+    cases.group("Leading zeros")
+    for form in FORMS:
+        family, q = form
+        value = list(range(1, COUNTS[family] + 1))
+        zeros = ",".join("0" * (3 * number) + str(number) for number in value)
+        cases.ask(form, "mul", zeros, single(family, 0, 1), expected=value)
+        cases.ask(form, "neg", ",".join(["0" * 60] * COUNTS[family]), expected=single(family, 0, 0))
+        cases.ask(form, "neg", ",".join(["0" * 30 + str(q)] * COUNTS[family]), expected=out_of_range(0))
+
+
+def several_out_of_range(cases):
+    for form in (("long", 4093), ("long", 1021), ("poly", 4093)):
+        family, q = form
+        cases.group("Two coefficients out of range, every pair, in %s-%d: the smaller power of X is told" % form)
+        for i, j in itertools.combinations(range(8), 2):
+            value = with_number(single(family, i, q), j, 65536)
+            power = min(power_of(family, i), power_of(family, j))
+            cases.ask(form, "neg", value, expected=out_of_range(power))
+    cases.group("Many coefficients out of range: the smallest power of X is told")
+    for q in MODULI:
+        cases.ask(("short", q), "neg", [q, q], expected=out_of_range(0))
+        for family in ("long", "poly"):
+            for legal in range(9):
+                # The first places are in range, the rest are not.
+                value = [7] * legal + [q] * (8 - legal)
+                powers = [power_of(family, place) for place in range(legal, 8)]
+                expected = out_of_range(min(powers)) if powers else [q - 7] * 8
+                cases.ask((family, q), "neg", value, expected=expected)
+
+
+def conversions(cases, draw):
+    other = {"long": "poly", "poly": "long"}
+    cases.group("Conversion of each place: long places 0 to 7 are the powers 0 4 2 6 1 5 3 7")
+    for q in MODULI:
+        for place, power in enumerate(LONG_POWERS):
+            cases.ask(("long", q), "convert", single("long", place, 1 + place), expected=single("poly", power, 1 + place))
+            cases.ask(("poly", q), "convert", single("poly", power, 1 + place), expected=single("long", place, 1 + place))
+    cases.group("Conversion there and back")
+    for q in MODULI:
+        for family in other:
+            for value in (draw.value(family, q), draw.value(family, q), [0] * 8, [q - 1] * 8, [10, 11, 12, 13, 14, 15, 16, 17]):
+                there = cases.ask((family, q), "convert", value)
+                cases.ask((other[family], q), "convert", there, expected=value)
+    cases.group("Conversion of a product is the product of conversions")
+    for q in MODULI:
+        a, b = draw.value("long", q), draw.value("long", q)
+        product = cases.ask(("long", q), "mul", a, b)
+        converted = cases.ask(("long", q), "convert", product)
+        first = cases.ask(("long", q), "convert", a)
+        second_one = cases.ask(("long", q), "convert", b)
+        cases.ask(("poly", q), "mul", first, second_one, expected=converted)
+        inverse = cases.ask(("long", q), "inverse", a)
+        converted = cases.ask(("long", q), "convert", inverse)
+        cases.ask(("poly", q), "inverse", first, expected=converted)
+        turned = cases.ask(("long", q), "by-nonresidue", a)
+        converted = cases.ask(("long", q), "convert", turned)
+        cases.ask(("poly", q), "by-nonresidue", first, expected=converted)
+    cases.group("Conversion refused")
+    for q in MODULI:
+        for family in other:
+            cases.ask((family, q), "convert", single(family, 1, q), expected=out_of_range(power_of(family, 1)))
+            cases.ask((family, q), "convert", single(family, 4, q), expected=out_of_range(power_of(family, 4)))
+            cases.ask((family, q), "convert", [0] * 7, expected=WRONG_COUNT)
+            cases.ask((family, q), "convert", [0] * 9, expected=WRONG_COUNT)
+
+
+def sameness(cases, draw):
+    cases.group("Same or not: a difference at each place")
+    for form in FORMS:
+        family, q = form
+        value = draw.value(family, q)
+        cases.ask(form, "same", value, value, expected="yes")
+        for place in range(COUNTS[family]):
+            changed = with_number(value, place, (value[place] + 1) % q)
+            cases.ask(form, "same", value, changed, expected="no")
+    cases.group("Same or not: zero, leading zeros, places exchanged, out of range")
+    for form in FORMS:
+        family, q = form
+        zero = single(family, 0, 0)
+        cases.ask(form, "same", zero, zero, expected="yes")
+        cases.ask(form, "same", zero, single(family, 0, q - 1), expected="no")
+        cases.ask(form, "same", zero, ",".join(["0000"] * COUNTS[family]), expected="yes")
+        cases.ask(form, "same", zero, single(family, 0, q), expected=out_of_range(0))
+        if family != "prime":
+            value = list(range(1, COUNTS[family] + 1))
+            cases.ask(form, "same", value, value[::-1], expected="no")
+
+
+def counts(cases):
+    cases.group("Another count of numbers than the form has")
+    for form in FORMS:
+        family, q = form
+        count = COUNTS[family]
+        for wrong in sorted({1, 2, count - 1, count + 1, 8, 16, 300} - {0, count}):
+            cases.ask(form, "neg", [1] * wrong, expected=WRONG_COUNT)
+    for form in FORMS:
+        family, q = form
+        right, wrong = [1] * COUNTS[family], [1] * (COUNTS[family] + 1)
+        for operation in ("add", "mul", "same"):
+            cases.ask(form, operation, wrong, right, expected=WRONG_COUNT)
+            cases.ask(form, operation, right, wrong, expected=WRONG_COUNT)
+        for operation in ("square", "inverse", "by-nonresidue"):
+            cases.ask(form, operation, wrong, expected=WRONG_COUNT)
+
+
+def every_operation_refuses(cases):
+    cases.group("Every operation refuses a number out of range, in either argument")
+    for form in FORMS:
+        family, q = form
+        last = COUNTS[family] - 1
+        right, wrong = single(family, 0, 1), single(family, last, q)
+        for operation in ("add", "mul", "same"):
+            cases.ask(form, operation, wrong, right, expected=out_of_range(last))
+            cases.ask(form, operation, right, wrong, expected=out_of_range(last))
+        for operation in ("neg", "square", "inverse", "by-nonresidue"):
+            cases.ask(form, operation, wrong, expected=out_of_range(last))
+
+
+# --- Faults ------------------------------------------------------------------
+
+
+def two_faults(cases):
+    cases.group("Two faults in one value: the count is tested before the range")
+    cases.text("prime-4093 neg 4093,4093", WRONG_COUNT)
+    cases.text("short-4093 neg 65536", WRONG_COUNT)
+    cases.text("short-1021 neg 0,1021,0", WRONG_COUNT)
+    cases.text("long-4093 neg 9999,9999", WRONG_COUNT)
+    cases.text("poly-1021 neg 0,0,0,0,0,0,0,0,%d" % THIRTY_DIGITS, WRONG_COUNT)
+    cases.group("Two faults in two values: the first value is told")
+    cases.text("short-4093 add 4093,0 1", out_of_range(0))
+    cases.text("short-4093 add 0,4093 1", out_of_range(1))
+    cases.text("short-4093 add 1 4093,0", WRONG_COUNT)
+    cases.text("short-4093 mul 0,4093 4093,0", out_of_range(1))
+    cases.text("short-4093 mul 4093,0 0,4093", out_of_range(0))
+    cases.text("long-1021 same 0,0,0,1021,0,0,0,0 0,0,0,0,1021,0,0,0", out_of_range(6))
+    cases.text("long-1021 same 0,0,0,0,1021,0,0,0 0,0,0,1021,0,0,0,0", out_of_range(1))
+    cases.text("poly-1021 same 0,0,0,1021,0,0,0,0 0,0,0,0,1021,0,0,0", out_of_range(3))
+    cases.text("poly-1021 same 0,0,0,0,1021,0,0,0 0,0,0,1021,0,0,0,0", out_of_range(4))
+    cases.text("long-4093 add 1 2", WRONG_COUNT)
+    cases.group("A zero that is also of a wrong count or out of range is not told as a zero")
+    cases.text("prime-4093 inverse 0,0", WRONG_COUNT)
+    cases.text("short-1021 inverse 0", WRONG_COUNT)
+    cases.text("long-4093 inverse 0", WRONG_COUNT)
+    cases.text("prime-1021 inverse 1021", out_of_range(0))
+    cases.text("short-4093 inverse 0,4093", out_of_range(1))
+    cases.text("long-4093 inverse 0,4093,0,0,0,0,0,0", out_of_range(4))
+    cases.group("All values are understood before any is built")
+    cases.text("short-4093 add 4093,0 x", NOT_A_VALUE)
+    cases.text("short-4093 add 1 x", NOT_A_VALUE)
+    cases.text("short-4093 mul x 4093,0", NOT_A_VALUE)
+    cases.text("prime-1021 same 5000 -1", NOT_A_VALUE)
+    cases.text("long-4093 add 1,2,3 1,2,", NOT_A_VALUE)
+    cases.text("prime-4093 neg 4093,", NOT_A_VALUE)
+    cases.text("poly-4093 mul 65536,0,0,0,0,0,0,0 0,0,0,0,0,0,0,0x", NOT_A_VALUE)
+    cases.group("The number of arguments is tested before the values")
+    cases.text("prime-4093 neg x y", WRONG_NUMBER)
+    cases.text("prime-4093 add x", WRONG_NUMBER)
+    cases.text("short-4093 add 4093,0", WRONG_NUMBER)
+    cases.text("long-1021 nonresidue x", WRONG_NUMBER)
+    cases.text("long-1021 inverse 0 0", WRONG_NUMBER)
+    cases.group("The form is tested before the operation, the operation before the number of arguments")
+    cases.text("prime-61 nothing", NO_FORM)
+    cases.text("prime-61 neg x y z", NO_FORM)
+    cases.text("prime-4093 nothing x y z", NO_OPERATION)
+    cases.text("prime-4093 convert", NO_OPERATION)
+    cases.text("short-4093 convert 1 2 3", NO_OPERATION)
+    cases.text("short-1021 convert x", NO_OPERATION)
+    cases.text("prime-1021 convert 5000", NO_OPERATION)
+    cases.group("Text is tested before the form")
+    cases.raw(b"nothing\x01", NOT_TEXT)
+    cases.raw(b"prime-4093 nothing \x7f", NOT_TEXT)
+    cases.raw(b"prime-4093 neg 4093\xff", NOT_TEXT)
+
+
+def spaces(cases):
+    cases.group("Spaces: two in a row, leading and trailing ones make empty words")
+    cases.text(" ", NO_FORM)
+    cases.text("  ", NO_FORM)
+    cases.text(" prime-4093 neg 1", NO_FORM)
+    cases.text(" # not a comment", NO_FORM)
+    cases.text("prime-4093 ", NO_OPERATION)
+    cases.text("prime-4093  neg 1", NO_OPERATION)
+    cases.text("prime-4093 neg ", NOT_A_VALUE)
+    cases.text("prime-4093 neg  1", WRONG_NUMBER)
+    cases.text("prime-4093 neg 1 ", WRONG_NUMBER)
+    cases.text("prime-4093 neg  ", WRONG_NUMBER)
+    cases.text("prime-4093 add  ", NOT_A_VALUE)
+    cases.text("prime-4093 add 1 ", NOT_A_VALUE)
+    cases.text("prime-4093 add  1", NOT_A_VALUE)
+    cases.text("prime-4093 add 1  2", WRONG_NUMBER)
+    cases.text("prime-4093 add 1 2 ", WRONG_NUMBER)
+    cases.text("prime-4093 nonresidue ", WRONG_NUMBER)
+    cases.text("prime-4093 sqrt-minus-one ", WRONG_NUMBER)
+    cases.text("short-4093 neg 1, 2", WRONG_NUMBER)
+    cases.text("short-4093 add 1, 2", NOT_A_VALUE)
+    cases.text("short-4093 add 1 ,2", NOT_A_VALUE)
+
+
+def not_values(cases):
+    cases.group("Arguments that are not values")
+    for word in (
+        ",", ",,", "1,", ",1", "1,,2", "+1", "-1", "1+", "1-", "-0", "0x10", "0X10", "0b1", "0o7", "1e3", "1.0", "1.",
+        ".5", "1_0", "1'0", "1;2", "1:2", "1/2", "(1)", "[1]", "\"1\"", "'1'", "x", "ff", "a1", "1a", "zero", "yes",
+        "nan", "inf", "~", "!", "#", "#1", "X", "2X", "X^2", "*", "=1", "$1", "%31", "\\1", "\\n", "-", "+", "1,+2",
+        "1,-2", "1,0x2", "1,2,x",
+    ):
+        cases.text("prime-4093 neg " + word, NOT_A_VALUE)
+    for word in ("1,-1", "1,+1", "-1,1", "1,", ",1", "1,,1", "1,x", "x,1", "1;1", "(1,1)", "1.1"):
+        cases.text("short-1021 inverse " + word, NOT_A_VALUE)
+    for form in FORMS:
+        right = [1] * COUNTS[form[0]]
+        cases.ask(form, "mul", right, notation(right) + ",", expected=NOT_A_VALUE)
+        cases.ask(form, "mul", "," + notation(right), right, expected=NOT_A_VALUE)
+        cases.ask(form, "square", notation(right) + "a", expected=NOT_A_VALUE)
+
+
+def no_such_words(cases):
+    cases.group("No such form")
+    for word in (
+        "long-61", "prime-61", "prime-2", "prime-", "prime", "-4093", "4093", "prime-04093", "prime-40930", "prime-409",
+        "prime-1022", "prime-4093,", "prime_4093", "prime4093", "prime--4093", "Prime-4093", "PRIME-4093", "Long-1021",
+        "LONG-1021", "shorT-4093", "Poly-4093", "medium-4093", "polynomial-4093", "tower-4093", "add", "neg",
+        "prime-+4093", "prime-0x3fd", "?", "~", "!#", "yes", "refused",
+    ):
+        cases.text(word + " neg 1", NO_FORM)
+    cases.text("long-61", NO_FORM)
+    cases.text("nothing", NO_FORM)
+    cases.group("No such operation, or none at all")
+    for form in FORMS:
+        cases.text("%s-%d" % form, NO_OPERATION)
+    for word in (
+        "Add", "ADD", "adds", "ad", "sub", "div", "inv", "Inverse", "sqrt", "sqr", "squared", "non-residue", "nonresidues",
+        "by_nonresidue", "by-nonresidu", "by-Nonresidue", "sqrt-minus-One", "sqrt-minus", "Same", "equal", "minus", "+",
+        "1", "#", "prime-4093", "add,", "?", "~",
+    ):
+        cases.text("prime-4093 %s 1" % word, NO_OPERATION)
+    for word in ("Convert", "CONVERT", "conv", "converts"):
+        cases.text("long-4093 %s 0,0,0,0,0,0,0,0" % word, NO_OPERATION)
+        cases.text("poly-1021 %s 0,0,0,0,0,0,0,0" % word, NO_OPERATION)
+    cases.group("Conversion is not an operation of the prime and short forms")
+    for q in MODULI:
+        cases.text("prime-%d convert 1" % q, NO_OPERATION)
+        cases.text("short-%d convert 1,2" % q, NO_OPERATION)
+
+
+def numbers_of_arguments(cases):
+    cases.group("Too many and too few arguments, every operation")
+    taken = {"add": 2, "neg": 1, "mul": 2, "square": 1, "inverse": 1, "nonresidue": 0, "by-nonresidue": 1, "sqrt-minus-one": 0, "same": 2}
+    for form in (("prime", 4093), ("short", 1021)):
+        value = notation([1] * COUNTS[form[0]])
+        for operation, right in taken.items():
+            for number in sorted({0, right - 1, right + 1, 5} - {-1, right}):
+                cases.ask(form, operation, *[value] * number, expected=WRONG_NUMBER)
+    for form in (("long", 4093), ("poly", 1021)):
+        for number in (0, 2, 3):
+            cases.ask(form, "convert", *[[1] * 8] * number, expected=WRONG_NUMBER)
+        cases.ask(form, "nonresidue", [1] * 8, expected=WRONG_NUMBER)
+        cases.ask(form, "sqrt-minus-one", [1] * 8, expected=WRONG_NUMBER)
+        cases.ask(form, "add", [1] * 8, expected=WRONG_NUMBER)
+    cases.text("prime-4093 neg 1 # no comment after a command", WRONG_NUMBER)
+    cases.text("long-4093 neg 1 2 3 4 5 6 7 8", WRONG_NUMBER)
+
+
+def not_text(cases):
+    cases.group("Bytes that are not text: tabs, control bytes, NUL, DEL and bytes over 127")
+    for line in (
+        b"prime-4093\tneg 1", b"prime-4093 neg\t1", b"prime-4093 neg 1\t", b"\tprime-4093 neg 1", b"\t",
+        b"prime-4093 neg 1\x00", b"\x00", b"\x00prime-4093 neg 1", b"prime-4093\x00 neg 1", b"prime-4093 neg 1\x002",
+        b"\x00# not a comment", b"prime-4093 neg 1\x0b", b"prime-4093 neg 1\x0c", b"prime-4093 neg 1\x1b[0m",
+        b"prime-4093 neg 1\x1a", b"prime-4093 neg 1\x1f", b"prime-4093 neg 1\x7f", b"prime-4093 neg 1\x80",
+        b"prime-4093 neg 1\x85", b"prime-4093 neg\xa01", b"prime-4093 neg \xff", b"\xff\xfe", b"\xef\xbb\xbfprime-4093 neg 1",
+        "prime-4093 neg \u00e9".encode(), "prime-4093 neg \u0661".encode(), "prime-4093 neg \uff11".encode(),
+        "prime-4093 neg \u22121".encode(), "prime-4093 neg 1\u2028".encode(), "prim\u00e9-4093 neg 1".encode(),
+        b"prime-4093 neg \xc3", b"\xc0\x80", b"\xed\xa0\x80", b"\xf0\x9f\x98\x80",
+    ):
+        cases.raw(line, NOT_TEXT)
+
+
+def carriage_returns(cases):
+    cases.group("Carriage returns: one before the newline is dropped, any other is not text")
+    cases.raw(b"prime-4093 neg 1\r", "4092")
+    cases.raw(b"short-1021 inverse 3,5\r", "747,797")
+    cases.raw(b"long-1021 nonresidue\r", "0,0,0,0,1,0,0,0")
+    cases.raw(b"prime-4093 neg \r", NOT_A_VALUE)
+    cases.raw(b"prime-4093\r", NO_OPERATION)
+    cases.raw(b" \r", NO_FORM)
+    cases.raw(b"prime-4093 neg 1\r\r", NOT_TEXT)
+    cases.raw(b"\r\r", NOT_TEXT)
+    cases.raw(b"\rprime-4093 neg 1", NOT_TEXT)
+    cases.raw(b"prime-4093\rneg 1", NOT_TEXT)
+    cases.raw(b"prime-4093 neg 1\rprime-4093 neg 2", NOT_TEXT)
+    cases.raw(b"\r# not a comment", NOT_TEXT)
+
+
+def passed_over(cases):
+    cases.group("Comments and empty lines have no answer")
+    cases.text("prime-4093 neg 1", "4092")
+    for line in (
+        b"", b"\r", b"", b"#", b"#\r", b"##", b"#prime-4093 neg 1", b"# prime-4093 neg 1", b"#\tprime-4093 neg 1",
+        b"# \x00 \x7f \xff", "# caf\u00e9".encode(), b"#\r\r", b"# a\rb",
+    ):
+        cases.passed_over(line)
+    cases.text("prime-4093 neg 2", "4091")
+    cases.passed_over(b"# A comment of 4097 bytes and one of 9000, each with a command at its end")
+    cases.passed_over(padded(b"# ", b" prime-4093 neg 3", 4097))
+    cases.text("prime-4093 neg 3", "4090")
+    cases.passed_over(padded(b"#", b" prime-4093 neg 4", 9000))
+    cases.text("prime-4093 neg 4", "4089")
+    cases.passed_over(b"#" + b"\xff" * 4096)
+    cases.text("prime-4093 neg 5", "4088")
+
+
+def long_lines(cases):
+    cases.group("Lines of exactly 4095, 4096 and 4097 bytes")
+    start = b"prime-4093 neg "
+    cases.raw(padded(start, b"7", 4095), "4086")
+    cases.raw(padded(start, b"7", 4096), "4086")
+    cases.raw(padded(start, b"7", 4097), TOO_LONG)
+    cases.raw(padded(start, b"4093", 4096), out_of_range(0))
+    cases.raw(start + b"9" * (4096 - len(start)), out_of_range(0))
+    cases.raw(start + b"9" * (4097 - len(start)), TOO_LONG)
+    cases.raw(padded(b"prime-1021 add ", b"5 6", 4096), "11")
+    cases.raw(padded(b"long-4093 mul 0,0,0,0,1,0,0,0 ", b",0,0,0,1,0,0,0", 4096), "0,0,1,0,0,0,0,0")
+    cases.group("A carriage return before the newline does not count")
+    cases.raw(padded(start, b"8", 4096) + b"\r", "4085")
+    cases.raw(padded(start, b"8", 4097) + b"\r", TOO_LONG)
+    cases.group("Long lines that are not understood")
+    cases.raw(b"x" * 4096, NO_FORM)
+    cases.raw(b"x" * 4097, TOO_LONG)
+    cases.raw(b" " * 4096, NO_FORM)
+    cases.raw(b" " * 4097, TOO_LONG)
+    cases.raw(start + b"x" * (4096 - len(start)), NOT_A_VALUE)
+    cases.raw(start + b" " * (4096 - len(start)), WRONG_NUMBER)
+    cases.raw(padded(b"prime-4093 ", b" 1", 4096), NO_OPERATION)
+    cases.raw(b"long-4093 neg 0" + b",0" * 2040, WRONG_COUNT)
+    cases.raw(b"short-4093 neg " + b"," * (4096 - len(b"short-4093 neg ")), NOT_A_VALUE)
+    cases.group("The length is tested before the text")
+    cases.raw(padded(start, b"\xff", 4096), NOT_TEXT)
+    cases.raw(padded(start, b"\xff", 4097), TOO_LONG)
+    cases.raw(b"\x00" * 4096, NOT_TEXT)
+    cases.raw(b"\x00" * 4097, TOO_LONG)
+    cases.group("A line far too long has one answer, also where it ends as a command would")
+    cases.raw(padded(start, b" prime-4093 neg 9", 9000), TOO_LONG)
+    cases.raw(b"prime-4093 neg 9 " * 1000, TOO_LONG)
+    cases.text("prime-4093 neg 9", "4084")
+
+
+def last_line(cases):
+    cases.group("The last line lacks its newline")
+    cases.raw(b"short-4093 mul 3,5 7,11", "131,68", ending=b"")
+
+
+def make():
+    second.check_constants()
+    cases, draw = Cases(), Draw(20)
+    known_answers(cases)
+    constants(cases)
+    zero_and_one(cases)
+    random_values(cases, draw)
+    basis_products(cases)
+    nonresidue_at_each_place(cases)
+    inverses(cases, draw)
+    edges(cases, draw)
+    wider_numbers(cases)
+    several_out_of_range(cases)
+    conversions(cases, draw)
+    sameness(cases, draw)
+    counts(cases)
+    every_operation_refuses(cases)
+    two_faults(cases)
+    spaces(cases)
+    not_values(cases)
+    no_such_words(cases)
+    numbers_of_arguments(cases)
+    not_text(cases)
+    carriage_returns(cases)
+    passed_over(cases)
+    long_lines(cases)
+    last_line(cases)
+    questions = b"".join(cases.lines)
+    assert list(second.answer_lines(io.BytesIO(questions))) == cases.answers
+    return questions, "".join(answer + "\n" for answer in cases.answers).encode("ascii")
+
+
+def main():
+    questions, answers = make()
+    for name, content in (("stdin", questions), ("stdout", answers)):
+        path = os.path.join(DIRECTORY, name)
+        if sys.argv[1:] == ["--check"]:
+            with open(path, "rb") as stored:
+                if stored.read() != content:
+                    sys.exit("%s differs" % os.path.normpath(path))
+        else:
+            with open(path, "wb") as stored:
+                stored.write(content)
+    print("%d cases" % answers.count(b"\n"))
+
+
+if __name__ == "__main__":
+    if sys.argv[1:] not in ([], ["--check"]):
+        sys.exit(__doc__)
+    main()

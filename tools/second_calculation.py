@@ -1,0 +1,298 @@
+#!/usr/bin/env python3
+"""A second, independent calculation of the finite-field calculator's answers.
+
+Reads calculator lines from standard input, writes one answer a line to
+standard output. It shares nothing with the engine and works by another method:
+
+* every value, also one of a tower of quadratic extensions, is a polynomial in
+  one variable X over the prime field, modulo X^c - 2, where c is 1, 2 or 8;
+* a product is the schoolbook product over Python's integers, then a remainder;
+* an inverse is a power, a^(q^c - 2), by square-and-multiply.
+
+A tower's list of coefficients is read into powers of X by reversing the binary
+digits of each place.
+"""
+
+import re
+import sys
+from collections import namedtuple
+
+LONGEST_LINE = 4096
+
+# Numbers of the refusals.
+OUT_OF_RANGE = 1
+ZERO_HAS_NO_INVERSE = 2
+WRONG_COUNT = 3
+
+
+class Refused(Exception):
+    """A well-formed line whose values the arithmetic does not admit."""
+
+    def __init__(self, number, part=0, place=0):
+        super().__init__(number, part, place)
+        self.number, self.part, self.place = number, part, place
+
+
+class NotUnderstood(Exception):
+    """A line that is not a command of the language."""
+
+
+# --- Forms -------------------------------------------------------------------
+
+# family: the word before the dash; q: the modulus; c: the count of
+# coefficients; tower: whether the notation lists coefficients in tower order.
+Form = namedtuple("Form", "family q c tower")
+
+FAMILIES = (("prime", 1, True), ("short", 2, True), ("long", 8, True), ("poly", 8, False))
+ROOT_OF_MINUS_ONE = {4093: 1059, 1021: 374}
+FORMS = {
+    "%s-%d" % (family, q): Form(family, q, c, tower)
+    for q in ROOT_OF_MINUS_ONE
+    for family, c, tower in FAMILIES
+}
+CONVERTED_FAMILY = {"long": "poly", "poly": "long"}
+
+
+def power_of_place(form, place):
+    """The power of X whose coefficient stands at this place of the notation."""
+    if not form.tower:
+        return place
+    digits = form.c.bit_length() - 1
+    power = 0
+    for _ in range(digits):
+        power = 2 * power + place % 2
+        place //= 2
+    return power
+
+
+def by_power(form, listed):
+    """Reorder a list in the form's notation into a list by power of X."""
+    powers = [None] * form.c
+    for place, number in enumerate(listed):
+        powers[power_of_place(form, place)] = number
+    return powers
+
+
+def by_place(form, powers):
+    """Reorder a list by power of X into the form's notation."""
+    return [powers[power_of_place(form, place)] for place in range(form.c)]
+
+
+# --- Polynomials modulo X^c - 2 over the prime field -------------------------
+# A polynomial is a list of c numbers 0..q-1, by power of X.
+
+
+def constant(form, number):
+    return [number % form.q] + [0] * (form.c - 1)
+
+
+def remainder(form, product):
+    """The remainder of a polynomial of any degree modulo X^c - 2 and q."""
+    rest = list(product)
+    while len(rest) > form.c:
+        leading = rest.pop()
+        rest[len(rest) - form.c] += 2 * leading
+    return [number % form.q for number in rest]
+
+
+def add(form, a, b):
+    return [(x + y) % form.q for x, y in zip(a, b)]
+
+
+def negative(form, a):
+    return [-x % form.q for x in a]
+
+
+def multiply(form, a, b):
+    product = [0] * (len(a) + len(b) - 1)
+    for i, x in enumerate(a):
+        for j, y in enumerate(b):
+            product[i + j] += x * y
+    return remainder(form, product)
+
+
+def raise_to(form, a, exponent):
+    """Square-and-multiply from the highest binary digit of the exponent."""
+    result = constant(form, 1)
+    for digit in bin(exponent)[2:]:
+        result = multiply(form, result, result)
+        if digit == "1":
+            result = multiply(form, result, a)
+    return result
+
+
+def inverse(form, a):
+    if not any(a):
+        raise Refused(ZERO_HAS_NO_INVERSE)
+    result = raise_to(form, a, form.q**form.c - 2)
+    assert multiply(form, result, a) == constant(form, 1)
+    return result
+
+
+def nonresidue(form):
+    """X itself; where c is 1 its remainder is the number 2."""
+    return remainder(form, [0, 1] + [0] * (form.c - 2))
+
+
+def root_of_minus_one(form):
+    return constant(form, ROOT_OF_MINUS_ONE[form.q])
+
+
+def check_constants():
+    """X^c - 2 is irreducible for c a power of two when q is 1 modulo 4 and 2
+    is a non-residue; and the stored roots are roots."""
+    for form in FORMS.values():
+        assert form.q % 4 == 1 and all(form.q % d for d in range(2, 64))
+        prime = Form("prime", form.q, 1, True)
+        assert raise_to(prime, [2], (form.q - 1) // 2) == [form.q - 1]
+        root = root_of_minus_one(form)
+        assert multiply(form, root, root) == constant(form, -1)
+
+
+# --- Notation ----------------------------------------------------------------
+
+NUMBERS = re.compile(r"[0-9]+(?:,[0-9]+)*")
+
+
+def understand_numbers(word):
+    if not NUMBERS.fullmatch(word):
+        raise NotUnderstood("not a value")
+    return [int(digits) for digits in word.split(",")]
+
+
+def build_value(form, numbers):
+    if len(numbers) != form.c:
+        raise Refused(WRONG_COUNT)
+    powers = by_power(form, numbers)
+    for power, number in enumerate(powers):
+        if number >= form.q:
+            raise Refused(OUT_OF_RANGE, 0, power)
+    return powers
+
+
+def write_value(form, powers):
+    return ",".join(str(number) for number in by_place(form, powers))
+
+
+def write_yes_or_no(truth):
+    return "yes" if truth else "no"
+
+
+def write_converted(form, powers):
+    other = FORMS["%s-%d" % (CONVERTED_FAMILY[form.family], form.q)]
+    return write_value(other, powers)
+
+
+# --- The table of operations -------------------------------------------------
+
+# How the words of one kind of argument are read: understand takes the word and
+# raises NotUnderstood, build takes the form and what was understood and raises
+# Refused.
+ArgumentKind = namedtuple("ArgumentKind", "understand build")
+VALUE = ArgumentKind(understand_numbers, build_value)
+
+# arguments: the kinds of the arguments; answer: from the form and the built
+# arguments to the text of the answer; families: the forms that have it.
+Operation = namedtuple("Operation", "arguments answer families")
+
+ALL_FAMILIES = frozenset(family for family, _, _ in FAMILIES)
+
+
+def value_operation(calculate, *arguments):
+    """An operation on all forms whose answer is a value of the same form."""
+    return Operation(
+        arguments, lambda form, *built: write_value(form, calculate(form, *built)), ALL_FAMILIES
+    )
+
+
+OPERATIONS = {
+    "add": value_operation(add, VALUE, VALUE),
+    "neg": value_operation(negative, VALUE),
+    "mul": value_operation(multiply, VALUE, VALUE),
+    "square": value_operation(lambda form, a: multiply(form, a, a), VALUE),
+    "inverse": value_operation(inverse, VALUE),
+    "nonresidue": value_operation(nonresidue),
+    "by-nonresidue": value_operation(lambda form, a: multiply(form, a, nonresidue(form)), VALUE),
+    "sqrt-minus-one": value_operation(root_of_minus_one),
+    "same": Operation(
+        (VALUE, VALUE), lambda form, a, b: write_yes_or_no(a == b), ALL_FAMILIES
+    ),
+    "convert": Operation((VALUE,), write_converted, frozenset(CONVERTED_FAMILY)),
+}
+
+
+# --- Lines -------------------------------------------------------------------
+
+
+def without_ending(line):
+    """The line without its newline and without one final carriage return."""
+    if line.endswith(b"\n"):
+        line = line[:-1]
+    if line.endswith(b"\r"):
+        line = line[:-1]
+    return line
+
+
+def is_passed_over(line):
+    return line == b"" or line.startswith(b"#")
+
+
+def understand_text(line):
+    if len(line) > LONGEST_LINE:
+        raise NotUnderstood("line too long")
+    if any(byte < 32 or byte > 126 for byte in line):
+        raise NotUnderstood("not text")
+    return line.decode("ascii")
+
+
+def understand_command(text):
+    """The form, the operation and the words of the arguments."""
+    words = text.split(" ")
+    form = FORMS.get(words[0])
+    if form is None:
+        raise NotUnderstood("no such form")
+    operation = OPERATIONS.get(words[1]) if len(words) > 1 else None
+    if operation is None or form.family not in operation.families:
+        raise NotUnderstood("no such operation")
+    if len(words) - 2 != len(operation.arguments):
+        raise NotUnderstood("wrong number of arguments")
+    return form, operation, words[2:]
+
+
+def answer_command(text):
+    form, operation, words = understand_command(text)
+    understood = [kind.understand(word) for kind, word in zip(operation.arguments, words)]
+    built = [kind.build(form, each) for kind, each in zip(operation.arguments, understood)]
+    return operation.answer(form, *built)
+
+
+def answer_line(line):
+    """The answer to one line of bytes, or None where the line is passed over."""
+    line = without_ending(line)
+    if is_passed_over(line):
+        return None
+    try:
+        return answer_command(understand_text(line))
+    except NotUnderstood as reason:
+        return "? %s" % reason
+    except Refused as refusal:
+        return "refused %d %d %d" % (refusal.number, refusal.part, refusal.place)
+
+
+def answer_lines(lines):
+    """The answers to lines of bytes, such as a file opened for bytes gives."""
+    for line in lines:
+        answer = answer_line(line)
+        if answer is not None:
+            yield answer
+
+
+def main():
+    check_constants()
+    for answer in answer_lines(sys.stdin.buffer):
+        sys.stdout.buffer.write(answer.encode("ascii") + b"\n")
+    sys.stdout.buffer.flush()
+
+
+if __name__ == "__main__":
+    main()
