@@ -1,0 +1,4 @@
+pub mod Remainders
+pub mod ComputedTests
+pub mod InverseTables
+pub mod ResidueLaws
