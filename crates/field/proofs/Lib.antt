@@ -10,3 +10,4 @@ pub mod UniqueInverses
 pub mod Interleaving
 pub mod ExtensionCoordinates
 pub mod Building
+pub mod Transport

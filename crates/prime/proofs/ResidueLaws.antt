@@ -21,8 +21,9 @@ module _ {V : Type 0} (q width root : ℕ) (p : Prime-modulus q width root) (kep
   below : (n : ℕ) → n % q < q
   below n = mod-lt n positive
 
-  plus-opposite : (n : ℕ) → n < q → (n + (q - n) % q) % q ≡ 0
-  plus-opposite n h = add-mod-mod n (q - n) q ∙ ap (λ (t : ℕ). t % q) (omega arith) ∙ mod-self q
+  plus-opposite : (n : ℕ) → n < q → (n + (q - n % q) % q) % q ≡ 0
+  plus-opposite n h =
+      ap (λ (t : ℕ). (n + (q - t) % q) % q) (mod-eq-of-lt h) ∙ add-mod-mod n (q - n) q ∙ ap (λ (t : ℕ). t % q) (omega arith) ∙ mod-self q
 
   module _ (make : (n : ℕ) → (v : V) × (kept v ≡ n)) where
     meant : (n : ℕ) → n < q → Meant (residues q root kept) (just n)
@@ -51,7 +52,9 @@ module _ {V : Type 0} (q width root : ℕ) (p : Prime-modulus q width root) (kep
         let i = p .inverse-exists (kept x % q) (below _) (λ e. n (ap just e)) in
         let m = make (i .0) in
         ∣ (m .0, ap just (ap (λ (t : ℕ). (kept x % q * (t % q)) % q) (m .1) ∙ times-mod-right _ _ q ∙ i .1)) ∣₁;
-      root-squared = ap just (p .root-squared ∙ sym (mod-eq-of-lt (let h = p .above-two in omega arith)));
+      root-squared =
+        let above = p .above-two in let one-below : 1 < q = omega arith in let last-below : q - 1 < q = omega arith in
+        ap just (p .root-squared ∙ sym (ap (λ (t : ℕ). (q - t) % q) (mod-eq-of-lt one-below) ∙ mod-eq-of-lt last-below));
       non-residue-has-no-root = λ x h. p .two-has-no-root (kept x % q) (below _) (ap number h);
     }
 

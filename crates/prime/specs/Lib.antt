@@ -1,2 +1,3 @@
 pub mod Residues
 pub mod Moduli
+pub mod Towers

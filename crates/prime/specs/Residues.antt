@@ -22,7 +22,7 @@ residues q root kept = record {
   one = just 1;
   plus = λ x y. just ((number x + number y) % q);
   times = λ x y. just ((number x * number y) % q);
-  opposite = λ x. just ((q - number x) % q);
+  opposite = λ x. just ((q - number x % q) % q);
   non-residue = just 2;
   sqrt-minus-one = just root;
 }

@@ -1,0 +1,4 @@
+pub mod Product
+pub mod Folds
+pub mod Polynomials
+pub mod BitReversal
