@@ -92,7 +92,11 @@ impl Fault {
     pub fn new(refusal: Refusal, part: Part, place: usize) -> Fault
         ensures { λ r. ⌜ r ≡ fault (refusal-number refusal) part place ⌝ }
     {
-        Fault { refusal, part, place }
+        Fault {
+            refusal,
+            part,
+            place,
+        }
     }
 
     // A fault of the call itself, with no place of its own.

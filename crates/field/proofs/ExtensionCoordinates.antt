@@ -30,7 +30,7 @@ module _ {V : Type 0} {f : Arithmetic V} {y : Layout} (l : Laws f) (k : Coordina
       counted = λ w. ap length (pair-by-power w) ∙ length-interleaved _ _ (same-counts (a0 w) (a1 w)) ∙ ap₂ _+_ (k .counted (a0 w)) (k .counted (a1 w));
       below-modulus = λ w. rw (pair-by-power w) (each-interleaved (λ n. n < y .modulus) _ _ (k .below-modulus (a0 w)) (k .below-modulus (a1 w)));
       known-by-power = λ w v h.
-        let p = interleaved-injective _ _ _ _ (same-counts (a0 w) (a1 w)) (same-counts (a0 v) (a1 v)) (sym (pair-by-power w) ∙ h ∙ pair-by-power v) in
-        ap₂ _++_ (k .known-by-power (a0 w) (a0 v) (p .0)) (k .known-by-power (a1 w) (a1 v) (p .1));
+          let p = interleaved-injective _ _ _ _ (same-counts (a0 w) (a1 w)) (same-counts (a0 v) (a1 v)) (sym (pair-by-power w) ∙ h ∙ pair-by-power v) in
+          ap₂ _++_ (k .known-by-power (a0 w) (a0 v) (p .0)) (k .known-by-power (a1 w) (a1 v) (p .1));
       zero-tells-zero = joined-by-power (f .zero) (f .zero) (meaning-length l (meanings l .zero)) ∙ ap₂ interleaved (k .zero-tells-zero) (k .zero-tells-zero) ∙ interleaved-replicate (y .count) 0;
     }

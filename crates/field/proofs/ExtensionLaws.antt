@@ -139,8 +139,8 @@ module _ {V : Type 0} {f : Arithmetic V} (l : Laws f) {W : Type 0} (a0 a1 : W �
       distributes = λ x y z. equation (x ∷ y ∷ z ∷ []) x (at 0 ⊗ (at 1 ⊕ at 2)) (at 0 ⊗ at 1 ⊕ at 0 ⊗ at 2) refl;
       zero-is-not-one = λ h. extension-field .zero-is-not-one (joined-injective (o .zero) (o .one) h);
       inverse-exists = λ x n.
-        let p = extension-field .inverse (pair-of x) (λ q. n (ap joined q)) in
-        ∥∥₁-map (meant (p .0) _ refl) (λ v. (v .0, ap (e .times (e .meaning x)) (v .1) ∙ sym (keeps .times (pair-of x) (p .0)) ∙ ap joined (p .1)));
+          let p = extension-field .inverse (pair-of x) (λ q. n (ap joined q)) in
+          ∥∥₁-map (meant (p .0) _ refl) (λ v. (v .0, ap (e .times (e .meaning x)) (v .1) ∙ sym (keeps .times (pair-of x) (p .0)) ∙ ap joined (p .1)));
       root-squared = sym (keeps .times (meaning-root l, meanings l .zero) (meaning-root l, meanings l .zero)) ∙ ap joined (pairs-root (meanings l) (meanings-ring l) (meaning-non-residue l) (meaning-root l) (meanings-root l)) ∙ keeps .opposite (o .one);
       non-residue-has-no-root = λ x h. generator-has-no-root (meanings l) (meanings-field l) (meaning-non-residue l) (meanings-no-root l) (meaning-root l) (meanings-root l) (pair-of x) (joined-injective _ _ (keeps .times (pair-of x) (pair-of x) ∙ h));
     }

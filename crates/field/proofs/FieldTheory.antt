@@ -17,6 +17,7 @@ HasNoRoot {A = A} o s = (t : A) → o .times t t ≢ s
 
 module _ {A : Type 0} (o : Operations A) (f : IsField o) where
   open Operations o using (zero, one, plus as _+_, times as _*_, opposite as neg)
+
   infixl 65 _+_
   infixl 70 _*_
   open IsField f using (is-ring as r, decide, inverse)
@@ -48,10 +49,10 @@ module _ {A : Type 0} (o : Operations A) (f : IsField o) where
         go (no n) =
             let b = inverse a1 n in
             absurd (no-root (a0 * b .0)
-              (ring o r (a0 ∷ b .0 ∷ []) (search quotes) refl
-               ∙ ap (λ t. t * (b .0 * b .0)) h
-               ∙ ring o r (s ∷ a1 ∷ b .0 ∷ []) (search quotes) refl
-               ∙ ap (λ t. s * (t * t)) (b .1) ∙ ap (λ t. s * t) (times-one one) ∙ times-one s))
+            (ring o r (a0 ∷ b .0 ∷ []) (search quotes) refl
+            ∙ ap (λ t. t * (b .0 * b .0)) h
+            ∙ ring o r (s ∷ a1 ∷ b .0 ∷ []) (search quotes) refl
+            ∙ ap (λ t. s * (t * t)) (b .1) ∙ ap (λ t. s * t) (times-one one) ∙ times-one s))
 
     -- the norm a0² − s·a1² is zero only for the pair of zeros
     pub norm-zero : (a0 a1 : A) → a0 * a0 + neg (s * (a1 * a1)) ≡ zero → (a0 ≡ zero) × (a1 ≡ zero)

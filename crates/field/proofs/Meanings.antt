@@ -79,7 +79,7 @@ module _ {V : Type 0} {a : Arithmetic V} (l : Laws a) where
   meanings-inverse : (x : Meaning) → x ≢ meanings .zero → (y : Meaning) × (meanings .times x y ≡ meanings .one)
   meanings-inverse x n =
       ∥∥₁-elim (x .1) only (λ w. ∥∥₁-elim (l .inverse-exists (w .0) (λ h. n (same-list (sym (w .1) ∙ h)))) only
-        (λ i. (meaning-of (i .0), same-list (ap (λ xs. a .times xs (a .meaning (i .0))) (sym (w .1)) ∙ i .1))))
+      (λ i. (meaning-of (i .0), same-list (ap (λ xs. a .times xs (a .meaning (i .0))) (sym (w .1)) ∙ i .1))))
     where
       only : IsProp ((y : Meaning) × (meanings .times x y ≡ meanings .one))
       only p q = Σ-prop-path (λ y. hedberg meanings-decide (meanings .times x y) (meanings .one)) (inverse-unique meanings meanings-ring x (p .0) (q .0) (p .1) (q .1))

@@ -27,17 +27,17 @@ module _ {A : Type 0} (o : Operations A) (r : Ring o) (s : A) where
     plus-zero = λ x. both (r .plus-zero _) (r .plus-zero _);
     plus-opposite = λ x. both (r .plus-opposite _) (r .plus-opposite _);
     times-commutes = λ x y. both
-      (ring o r (s ∷ x .0 ∷ x .1 ∷ y .0 ∷ y .1 ∷ []) (search quotes) refl)
-      (ring o r (s ∷ x .0 ∷ x .1 ∷ y .0 ∷ y .1 ∷ []) (search quotes) refl);
+        (ring o r (s ∷ x .0 ∷ x .1 ∷ y .0 ∷ y .1 ∷ []) (search quotes) refl)
+        (ring o r (s ∷ x .0 ∷ x .1 ∷ y .0 ∷ y .1 ∷ []) (search quotes) refl);
     times-associates = λ x y z. both
-      (ring o r (s ∷ x .0 ∷ x .1 ∷ y .0 ∷ y .1 ∷ z .0 ∷ z .1 ∷ []) (search quotes depth 12) refl)
-      (ring o r (s ∷ x .0 ∷ x .1 ∷ y .0 ∷ y .1 ∷ z .0 ∷ z .1 ∷ []) (search quotes depth 12) refl);
+        (ring o r (s ∷ x .0 ∷ x .1 ∷ y .0 ∷ y .1 ∷ z .0 ∷ z .1 ∷ []) (search quotes depth 12) refl)
+        (ring o r (s ∷ x .0 ∷ x .1 ∷ y .0 ∷ y .1 ∷ z .0 ∷ z .1 ∷ []) (search quotes depth 12) refl);
     times-one = λ x. both
-      (ring o r (s ∷ x .0 ∷ x .1 ∷ []) (search quotes) refl)
-      (ring o r (s ∷ x .0 ∷ x .1 ∷ []) (search quotes) refl);
+        (ring o r (s ∷ x .0 ∷ x .1 ∷ []) (search quotes) refl)
+        (ring o r (s ∷ x .0 ∷ x .1 ∷ []) (search quotes) refl);
     distributes = λ x y z. both
-      (ring o r (s ∷ x .0 ∷ x .1 ∷ y .0 ∷ y .1 ∷ z .0 ∷ z .1 ∷ []) (search quotes depth 12) refl)
-      (ring o r (s ∷ x .0 ∷ x .1 ∷ y .0 ∷ y .1 ∷ z .0 ∷ z .1 ∷ []) (search quotes depth 12) refl);
+        (ring o r (s ∷ x .0 ∷ x .1 ∷ y .0 ∷ y .1 ∷ z .0 ∷ z .1 ∷ []) (search quotes depth 12) refl)
+        (ring o r (s ∷ x .0 ∷ x .1 ∷ y .0 ∷ y .1 ∷ z .0 ∷ z .1 ∷ []) (search quotes depth 12) refl);
   }
 
   -- a pair times (a0·e, −a1·e) is its norm times e, and nothing at g
@@ -45,16 +45,17 @@ module _ {A : Type 0} (o : Operations A) (r : Ring o) (s : A) where
       (pairs o s .times x (o .times (x .0) e, o .opposite (o .times (x .1) e)))
       (o .times (o .plus (o .times (x .0) (x .0)) (o .opposite (o .times s (o .times (x .1) (x .1))))) e, o .zero)
   norm-times x e = both
-    (ring o r (s ∷ x .0 ∷ x .1 ∷ e ∷ []) (search quotes depth 12) refl)
-    (ring o r (s ∷ x .0 ∷ x .1 ∷ e ∷ []) (search quotes depth 12) refl)
+      (ring o r (s ∷ x .0 ∷ x .1 ∷ e ∷ []) (search quotes depth 12) refl)
+      (ring o r (s ∷ x .0 ∷ x .1 ∷ e ∷ []) (search quotes depth 12) refl)
 
   pub pairs-root : (i : A) → o .times i i ≡ o .opposite (o .one) → pairs o s .times (i, o .zero) (i, o .zero) ≡ pairs o s .opposite (pairs o s .one)
   pairs-root i h = both
-    (ring o r (s ∷ i ∷ []) (search quotes) refl ∙ h)
-    (ring o r (s ∷ i ∷ []) (search quotes) refl)
+      (ring o r (s ∷ i ∷ []) (search quotes) refl ∙ h)
+      (ring o r (s ∷ i ∷ []) (search quotes) refl)
 
 module _ {A : Type 0} (o : Operations A) (f : IsField o) (s : A) (no-root : HasNoRoot o s) where
   open Operations o using (zero, one, plus as _+_, times as _*_, opposite as neg)
+
   infixl 65 _+_
   infixl 70 _*_
   open IsField f using (is-ring as r)
@@ -65,9 +66,9 @@ module _ {A : Type 0} (o : Operations A) (f : IsField o) (s : A) (no-root : HasN
     decide = ×-discrete (f .decide) (f .decide);
     zero-is-not-one = λ h. f .zero-is-not-one (ap (λ (x : A × A). x .0) h);
     inverse = λ x n.
-      let norm = x .0 * x .0 + neg (s * (x .1 * x .1)) in
-      let e = f .inverse norm (λ h. n (both (norm-zero o f s no-root (x .0) (x .1) h .0) (norm-zero o f s no-root (x .0) (x .1) h .1))) in
-      ((x .0 * e .0, neg (x .1 * e .0)), norm-times o r s x (e .0) ∙ both (e .1) refl);
+        let norm = x .0 * x .0 + neg (s * (x .1 * x .1)) in
+        let e = f .inverse norm (λ h. n (both (norm-zero o f s no-root (x .0) (x .1) h .0) (norm-zero o f s no-root (x .0) (x .1) h .1))) in
+        ((x .0 * e .0, neg (x .1 * e .0)), norm-times o r s x (e .0) ∙ both (e .1) refl);
   }
 
   -- where the field below has a root of minus one, g is no square
@@ -76,7 +77,7 @@ module _ {A : Type 0} (o : Operations A) (f : IsField o) (s : A) (no-root : HasN
       let p : t .0 * t .0 + s * (t .1 * t .1) ≡ zero = ap (λ (x : A × A). x .0) h in
       let q : t .0 * t .1 + t .1 * t .0 ≡ one = ap (λ (x : A × A). x .1) h in
       let z : t .1 ≡ zero = no-ratio o f s no-root (i * t .0) (t .1)
-            (ring o r (i ∷ t .0 ∷ []) (search quotes) refl ∙ ap (λ u. u * (t .0 * t .0)) root-squared
-             ∙ ring o r (s ∷ t .0 ∷ t .1 ∷ []) (search quotes) refl
-             ∙ ap (λ u. s * (t .1 * t .1) + neg u) p ∙ ring o r (s ∷ t .1 ∷ []) (search quotes) refl) in
+      (ring o r (i ∷ t .0 ∷ []) (search quotes) refl ∙ ap (λ u. u * (t .0 * t .0)) root-squared
+      ∙ ring o r (s ∷ t .0 ∷ t .1 ∷ []) (search quotes) refl
+      ∙ ap (λ u. s * (t .1 * t .1) + neg u) p ∙ ring o r (s ∷ t .1 ∷ []) (search quotes) refl) in
       f .zero-is-not-one (sym (ap (λ u. t .0 * u + u * t .0) z ∙ ring o r (t .0 ∷ []) (search quotes) refl) ∙ q)

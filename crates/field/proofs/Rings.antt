@@ -20,6 +20,7 @@ pub record Ring {A : Type 0} (o : Operations A) : Type 0 where
 
 module _ {A : Type 0} (o : Operations A) (r : Ring o) where
   open Operations o using (zero, one, plus as _+_, times as _*_, opposite as neg)
+
   infixl 65 _+_
   infixl 70 _*_
   open Ring r using (plus-commutes, plus-associates, plus-zero, plus-opposite, times-commutes, times-associates, times-one, distributes)

@@ -88,9 +88,9 @@ Same a b = sort (form a .0 ++ form b .1) ≡ sort (form b .0 ++ form a .1)
 
 module _ {A : Type 0} (o : Operations A) where
   open Operations o using (zero, one, plus as _+_, times as _*_, opposite as neg)
+
   infixl 65 _+_
   infixl 70 _*_
-
   abbrev pub value : (ℕ → A) → Expression → A
   value ρ (at n) = ρ n
   value ρ e0 = zero
@@ -180,8 +180,8 @@ module _ {A : Type 0} (o : Operations A) where
     form-right (a ⊗ b) =
         ap₂ _*_ (form-right a) (form-right b) ∙ times-forms _ _ _ _
         ∙ ap₂ (λ s t. s + neg t)
-          (sym (append-value (poly-times (form a .0) (form b .0)) _ ∙ ap₂ _+_ (poly-times-value (form a .0) (form b .0)) (poly-times-value (form a .1) (form b .1))))
-          (sym (append-value (poly-times (form a .0) (form b .1)) _ ∙ ap₂ _+_ (poly-times-value (form a .0) (form b .1)) (poly-times-value (form a .1) (form b .0))))
+        (sym (append-value (poly-times (form a .0) (form b .0)) _ ∙ ap₂ _+_ (poly-times-value (form a .0) (form b .0)) (poly-times-value (form a .1) (form b .1))))
+        (sym (append-value (poly-times (form a .0) (form b .1)) _ ∙ ap₂ _+_ (poly-times-value (form a .0) (form b .1)) (poly-times-value (form a .1) (form b .0))))
     form-right (⊖ a) = ap neg (form-right a) ∙ opposite-plus o r _ _ ∙ ap (λ t. neg (poly-value ρ (form a .0)) + t) (opposite-twice o r _) ∙ plus-commutes _ _
 
     -- p + s ≡ q + n gives p - n ≡ q - s
@@ -189,13 +189,13 @@ module _ {A : Type 0} (o : Operations A) where
     cross p n q s h =
         plus-cancels o r (s + n) (p + neg n) (q + neg s)
         (swap-middle o r s n p (neg n) ∙ ap₂ _+_ (plus-commutes s p ∙ h) (plus-opposite n) ∙ plus-zero _
-         ∙ sym (ap (λ t. t + (q + neg s)) (plus-commutes s n) ∙ swap-middle o r n s q (neg s) ∙ ap₂ _+_ (plus-commutes n q) (plus-opposite s) ∙ plus-zero _))
+        ∙ sym (ap (λ t. t + (q + neg s)) (plus-commutes s n) ∙ swap-middle o r n s q (neg s) ∙ ap₂ _+_ (plus-commutes n q) (plus-opposite s) ∙ plus-zero _))
 
     pub solve : (a b : Expression) → Same a b → value ρ a ≡ value ρ b
     unfolding form-value
     solve a b h =
         form-right a
         ∙ cross _ _ _ _
-          (sym (append-value (form a .0) (form b .1)) ∙ sym (sort-value (form a .0 ++ form b .1)) ∙ ap (poly-value ρ) h
-           ∙ sort-value (form b .0 ++ form a .1) ∙ append-value (form b .0) (form a .1))
+        (sym (append-value (form a .0) (form b .1)) ∙ sym (sort-value (form a .0 ++ form b .1)) ∙ ap (poly-value ρ) h
+        ∙ sort-value (form b .0 ++ form a .1) ∙ append-value (form b .0) (form a .1))
         ∙ sym (form-right b)

@@ -86,8 +86,8 @@ module _ {V : Type 0} {a : Arithmetic V} (l : Laws a) {W : Type 0} {b : Arithmet
     distributes = λ x y z. equation (x ∷ y ∷ z ∷ []) x (at 0 ⊗ (at 1 ⊕ at 2)) (at 0 ⊗ at 1 ⊕ at 0 ⊗ at 2) refl;
     zero-is-not-one = λ h. meanings-field l .zero-is-not-one (ψ-injective (meanings l .zero) (meanings l .one) (c .zero ∙ h ∙ sym (c .one)));
     inverse-exists = λ x n.
-      let i = meanings-field l .inverse (lifted x) (λ e. n (ap ψ e ∙ c .zero)) in
-      ∥∥₁-map (meant (i .0) _ refl) (λ v. (v .0, ap (b .times (carried x)) (v .1) ∙ sym (keeps .times (lifted x) (i .0)) ∙ ap ψ (i .1) ∙ c .one));
+        let i = meanings-field l .inverse (lifted x) (λ e. n (ap ψ e ∙ c .zero)) in
+        ∥∥₁-map (meant (i .0) _ refl) (λ v. (v .0, ap (b .times (carried x)) (v .1) ∙ sym (keeps .times (lifted x) (i .0)) ∙ ap ψ (i .1) ∙ c .one));
     root-squared = ap₂ (b .times) (sym (c .sqrt-minus-one)) (sym (c .sqrt-minus-one)) ∙ sym (keeps .times (meaning-root l) (meaning-root l)) ∙ ap ψ (meanings-root l) ∙ keeps .opposite (meanings l .one) ∙ ap (b .opposite) (c .one);
     non-residue-has-no-root = λ x h. meanings-no-root l (lifted x) (ψ-injective _ _ (keeps .times (lifted x) (lifted x) ∙ h ∙ sym (c .non-residue)));
   }

@@ -52,8 +52,8 @@ below-before q xs = leading (λ x. ltb x q) xs
 abbrev pub coefficients : Layout → List ℕ → Result (List ℕ) Fault
 coefficients l xs =
     cond (eqb (length xs) (l .count))
-      (cond (eqb (below-before (l .modulus) xs) (length xs)) (Ok xs) (Err (fault 1 Call (below-before (l .modulus) xs))))
-      (Err (fault 3 Call 0))
+    (cond (eqb (below-before (l .modulus) xs) (length xs)) (Ok xs) (Err (fault 1 Call (below-before (l .modulus) xs))))
+    (Err (fault 3 Call 0))
 
 -- The answer that builds a value from a list: the value that has these coefficients by power, or the list's refusal.
 abbrev pub Built : {V : Type 0} → Arithmetic V → Layout → List ℕ → Result V Fault → Type 0

@@ -21,8 +21,8 @@ extension f a0 a1 = record {
   one = f .one ++ f .zero;
   plus = λ x y. f .plus (first f x) (first f y) ++ f .plus (second f x) (second f y);
   times = λ x y.
-    f .plus (f .times (first f x) (first f y)) (f .times (f .non-residue) (f .times (second f x) (second f y)))
-    ++ f .plus (f .times (first f x) (second f y)) (f .times (second f x) (first f y));
+      f .plus (f .times (first f x) (first f y)) (f .times (f .non-residue) (f .times (second f x) (second f y)))
+      ++ f .plus (f .times (first f x) (second f y)) (f .times (second f x) (first f y));
   opposite = λ x. f .opposite (first f x) ++ f .opposite (second f x);
   non-residue = f .zero ++ f .one;
   sqrt-minus-one = f .sqrt-minus-one ++ f .zero;

@@ -74,9 +74,15 @@ pub impl<F: Coordinates> Coordinates for Quadratic<F> as QuadraticCoordinates {
 
     fn with_coefficient(self, power: usize, coefficient: u16) -> Self {
         if power % 2 == 0 {
-            Quadratic { a0: self.a0.with_coefficient(power / 2, coefficient), a1: self.a1 }
+            Quadratic {
+                a0: self.a0.with_coefficient(power / 2, coefficient),
+                a1: self.a1,
+            }
         } else {
-            Quadratic { a0: self.a0, a1: self.a1.with_coefficient(power / 2, coefficient) }
+            Quadratic {
+                a0: self.a0,
+                a1: self.a1.with_coefficient(power / 2, coefficient),
+            }
         }
     }
 }

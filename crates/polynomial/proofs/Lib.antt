@@ -1,3 +1,6 @@
-pub mod Eight
+pub mod Lists
+pub mod Remainders
+pub mod Folds
+pub mod Sums
 pub mod Reversals
 pub mod PolynomialLaws

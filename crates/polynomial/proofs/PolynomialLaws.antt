@@ -15,7 +15,7 @@ use Rattle.prime.proofs.ResidueLaws.{residue-laws, positive}
 use Rattle.polynomial.specs.Product.{remainders}
 use Rattle.polynomial.specs.Polynomials.{polynomials, polynomial-layout, eight-remainders}
 use Rattle.polynomial.specs.BitReversal.{bit-reversed}
-use Rattle.polynomial.proofs.Eight.{of-eight}
+use Rattle.polynomial.proofs.Lists.{of-eight}
 use Rattle.polynomial.proofs.Reversals.{reversal-carries}
 
 pub eight-of-eight : (q : ℕ) (xs : List ℕ) → length xs ≡ 8 → eight-remainders q xs ≡ remainders q xs

@@ -15,7 +15,7 @@ use Rattle.prime.proofs.Remainders.{times-mod-right}
 use Rattle.polynomial.specs.Product.{polynomial-times, polynomial-plus, polynomial-opposite}
 use Rattle.polynomial.specs.Polynomials.{polynomials, constant}
 use Rattle.polynomial.specs.BitReversal.{bit-reversed, Keeps-sums-and-products}
-use Rattle.polynomial.proofs.Eight.{of-eight}
+use Rattle.polynomial.proofs.Lists.{of-eight}
 
 -- the table's places, read from a list, are the rule of even and odd powers
 pub table-is-rule : (xs : List ℕ) → length xs ≡ 8 → pickL 0 (xs ++ xs) (0 ∷ 4 ∷ 2 ∷ 6 ∷ 1 ∷ 5 ∷ 3 ∷ 7 ∷ []) ≡ bit-reversed 3 xs
@@ -80,10 +80,10 @@ module _ {W : Type 0} (q root : ℕ) (kept : W → List ℕ) where
     zero = refl;
     one = refl;
     plus = λ xs ys l k.
-      of-eight (λ xs. bit-reversed 3 (t .plus xs ys) ≡ polynomial-plus q (bit-reversed 3 xs) (bit-reversed 3 ys)) (λ a0 a1 a2 a3 a4 a5 a6 a7.
+        of-eight (λ xs. bit-reversed 3 (t .plus xs ys) ≡ polynomial-plus q (bit-reversed 3 xs) (bit-reversed 3 ys)) (λ a0 a1 a2 a3 a4 a5 a6 a7.
         of-eight (λ ys. bit-reversed 3 (t .plus (a0 ∷ a1 ∷ a2 ∷ a3 ∷ a4 ∷ a5 ∷ a6 ∷ a7 ∷ []) ys) ≡ polynomial-plus q (bit-reversed 3 (a0 ∷ a1 ∷ a2 ∷ a3 ∷ a4 ∷ a5 ∷ a6 ∷ a7 ∷ [])) (bit-reversed 3 ys)) (λ b0 b1 b2 b3 b4 b5 b6 b7. refl) ys k) xs l;
     times = λ xs ys l k.
-      of-eight (λ xs. bit-reversed 3 (t .times xs ys) ≡ polynomial-times q (bit-reversed 3 xs) (bit-reversed 3 ys)) (λ a0 a1 a2 a3 a4 a5 a6 a7.
+        of-eight (λ xs. bit-reversed 3 (t .times xs ys) ≡ polynomial-times q (bit-reversed 3 xs) (bit-reversed 3 ys)) (λ a0 a1 a2 a3 a4 a5 a6 a7.
         of-eight (λ ys. bit-reversed 3 (t .times (a0 ∷ a1 ∷ a2 ∷ a3 ∷ a4 ∷ a5 ∷ a6 ∷ a7 ∷ []) ys) ≡ polynomial-times q (bit-reversed 3 (a0 ∷ a1 ∷ a2 ∷ a3 ∷ a4 ∷ a5 ∷ a6 ∷ a7 ∷ [])) (bit-reversed 3 ys)) (all-agree q root a0 a1 a2 a3 a4 a5 a6 a7) ys k) xs l;
     opposite = of-eight (λ xs. bit-reversed 3 (t .opposite xs) ≡ polynomial-opposite q (bit-reversed 3 xs)) (λ a0 a1 a2 a3 a4 a5 a6 a7. refl);
     non-residue = refl;

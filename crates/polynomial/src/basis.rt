@@ -24,23 +24,38 @@ pub impl<M: Modulus> Field for PolynomialBasis<M> as PolynomialField {
     ghost arithmetic = { polynomials (M·Modulus .q) (M·Modulus .root) (λ x. x .kept) };
 
     fn zero() -> Self {
-        PolynomialBasis { kept: [0; 8], modulus: M::marker() }
+        PolynomialBasis {
+            kept: [0; 8],
+            modulus: M::marker(),
+        }
     }
 
     fn one() -> Self {
-        PolynomialBasis { kept: [1, 0, 0, 0, 0, 0, 0, 0], modulus: M::marker() }
+        PolynomialBasis {
+            kept: [1, 0, 0, 0, 0, 0, 0, 0],
+            modulus: M::marker(),
+        }
     }
 
     fn add(self, other: Self) -> Self {
-        PolynomialBasis { kept: lanes::plus(self.kept, other.kept, M::width()), modulus: M::marker() }
+        PolynomialBasis {
+            kept: lanes::plus(self.kept, other.kept, M::width()),
+            modulus: M::marker(),
+        }
     }
 
     fn neg(self) -> Self {
-        PolynomialBasis { kept: lanes::opposite(self.kept, M::width()), modulus: M::marker() }
+        PolynomialBasis {
+            kept: lanes::opposite(self.kept, M::width()),
+            modulus: M::marker(),
+        }
     }
 
     fn mul(self, other: Self) -> Self {
-        PolynomialBasis { kept: lanes::times(self.kept, other.kept, M::width()), modulus: M::marker() }
+        PolynomialBasis {
+            kept: lanes::times(self.kept, other.kept, M::width()),
+            modulus: M::marker(),
+        }
     }
 
     fn square(self) -> Self {
@@ -55,15 +70,24 @@ pub impl<M: Modulus> Field for PolynomialBasis<M> as PolynomialField {
 
     // X itself
     fn non_residue() -> Self {
-        PolynomialBasis { kept: [0, 1, 0, 0, 0, 0, 0, 0], modulus: M::marker() }
+        PolynomialBasis {
+            kept: [0, 1, 0, 0, 0, 0, 0, 0],
+            modulus: M::marker(),
+        }
     }
 
     fn mul_by_non_residue(self) -> Self {
-        PolynomialBasis { kept: lanes::times_x(self.kept, M::width()), modulus: M::marker() }
+        PolynomialBasis {
+            kept: lanes::times_x(self.kept, M::width()),
+            modulus: M::marker(),
+        }
     }
 
     fn sqrt_minus_one() -> Self {
-        PolynomialBasis { kept: [M::sqrt_minus_one(), 0, 0, 0, 0, 0, 0, 0], modulus: M::marker() }
+        PolynomialBasis {
+            kept: [M::sqrt_minus_one(), 0, 0, 0, 0, 0, 0, 0],
+            modulus: M::marker(),
+        }
     }
 
     fn same(self, other: Self) -> bool {
@@ -96,7 +120,11 @@ pub impl<M: Modulus> Coordinates for PolynomialBasis<M> as PolynomialCoordinates
     }
 
     fn coefficient(self, power: usize) -> u16 {
-        if power < 8 { self.kept[power] % M::modulus() } else { 0 }
+        if power < 8 {
+            self.kept[power] % M::modulus()
+        } else {
+            0
+        }
     }
 
     fn with_coefficient(self, power: usize, coefficient: u16) -> Self {
@@ -105,6 +133,9 @@ pub impl<M: Modulus> Coordinates for PolynomialBasis<M> as PolynomialCoordinates
         }
         let mut kept = self.kept;
         kept[power] = coefficient;
-        PolynomialBasis { kept, modulus: M::marker() }
+        PolynomialBasis {
+            kept,
+            modulus: M::marker(),
+        }
     }
 }

@@ -1,5 +1,5 @@
 // Polynomials of eight coefficients by power of X, with X^8 = 2, modulo q, where 2^width = q + 3.
-// A coefficient is any u16, and means its remainder by q.
+// A coefficient is any u16, and means its remainder by q. The vectors have a lane for each.
 ghost use Prim.Native.Nat.{ℕ, _+_, _^_, _<_, _≤_};
 ghost use Rattle.polynomial.specs.Folds.{folded};
 ghost use Rattle.polynomial.specs.Product.{places, remainders, polynomial-plus, polynomial-opposite, polynomial-times, polynomial-x};
@@ -26,11 +26,15 @@ pub(crate) fn opposite(f: [u16; 8], width: u16) -> [u16; 8]
     rest.to_array()
 }
 
+// The faster with the factor that stays the same over a loop, if one does, as `h`.
 pub(crate) fn times(f: [u16; 8], h: [u16; 8], width: u16) -> [u16; 8]
     requires { ⌜ 6 ≤ width ⌝ ∗ ⌜ width ≤ 12 ⌝ }
     ensures { λ r. ⌜ ((q : ℕ) → 2 ^ width ≡ q + 3 → remainders q r ≡ polynomial-times q (remainders q f) (remainders q h)) ⌝ }
 {
-    let sums = sums_of_products(fold16(u16x8::from_array(f), width), fold16(u16x8::from_array(h), width));
+    let sums = sums_of_products(
+        fold16(u16x8::from_array(f), width),
+        fold16_by_product(u16x8::from_array(h), width),
+    );
     reduce(sums, width).to_array()
 }
 
@@ -51,6 +55,17 @@ fn fold16(x: u16x8, width: u16) -> u16x8
 {
     let high = x >> u16x8::splat(width);
     high + high + high + (x & u16x8::splat((1 << width) - 1))
+}
+
+// The same lanes as `fold16`, from which the compiler learns no bound. So it keeps the mask of `pair_sums`
+// where it computes this factor ahead of a loop, and there the product is a third faster.
+fn fold16_by_product(x: u16x8, width: u16) -> u16x8
+    requires { ⌜ 6 ≤ width ⌝ ∗ ⌜ width ≤ 12 ⌝ }
+    ensures same { λ r. ⌜ ((q : ℕ) → 2 ^ width ≡ q + 3 → remainders q r ≡ remainders q x) ⌝ }
+    ensures small { λ r. ⌜ Each1 (λ n. n < 8192) r ⌝ }
+{
+    let high = x >> u16x8::splat(width);
+    x - high * u16x8::splat((1 << width) - 3)
 }
 
 fn fold32(x: u32x8, width: u16) -> u32x8
@@ -82,12 +97,27 @@ fn sums_of_products(x: u16x8, h: u16x8) -> u32x8
     requires { ⌜ Each1 (λ n. n < 8192) h ⌝ }
     ensures { λ r. ⌜ r ≡ places x h ⌝ }
 {
-    // In `d` and then `h`, the eight lanes that end i before the last are those of X^i·h.
+    // Of the lanes of `d` and then `h`, eight in a row that begin at the place 8 - i are those of X^i·h.
     let d = h + h;
-    let s0 = pair_sums(x.swizzle([0, 1, 0, 1, 0, 1, 0, 1, 0, 1, 0, 1, 0, 1, 0, 1]), d.shuffle(h, [8, 7, 9, 8, 10, 9, 11, 10, 12, 11, 13, 12, 14, 13, 15, 14]));
-    let s2 = pair_sums(x.swizzle([2, 3, 2, 3, 2, 3, 2, 3, 2, 3, 2, 3, 2, 3, 2, 3]), d.shuffle(h, [6, 5, 7, 6, 8, 7, 9, 8, 10, 9, 11, 10, 12, 11, 13, 12]));
-    let s4 = pair_sums(x.swizzle([4, 5, 4, 5, 4, 5, 4, 5, 4, 5, 4, 5, 4, 5, 4, 5]), d.shuffle(h, [4, 3, 5, 4, 6, 5, 7, 6, 8, 7, 9, 8, 10, 9, 11, 10]));
-    let s6 = pair_sums(x.swizzle([6, 7, 6, 7, 6, 7, 6, 7, 6, 7, 6, 7, 6, 7, 6, 7]), d.shuffle(h, [2, 1, 3, 2, 4, 3, 5, 4, 6, 5, 7, 6, 8, 7, 9, 8]));
+    let s0 = pair_sums(
+        x.swizzle([0, 1, 0, 1, 0, 1, 0, 1, 0, 1, 0, 1, 0, 1, 0, 1]),
+        d.shuffle(
+            h,
+            [8, 7, 9, 8, 10, 9, 11, 10, 12, 11, 13, 12, 14, 13, 15, 14],
+        ),
+    );
+    let s2 = pair_sums(
+        x.swizzle([2, 3, 2, 3, 2, 3, 2, 3, 2, 3, 2, 3, 2, 3, 2, 3]),
+        d.shuffle(h, [6, 5, 7, 6, 8, 7, 9, 8, 10, 9, 11, 10, 12, 11, 13, 12]),
+    );
+    let s4 = pair_sums(
+        x.swizzle([4, 5, 4, 5, 4, 5, 4, 5, 4, 5, 4, 5, 4, 5, 4, 5]),
+        d.shuffle(h, [4, 3, 5, 4, 6, 5, 7, 6, 8, 7, 9, 8, 10, 9, 11, 10]),
+    );
+    let s6 = pair_sums(
+        x.swizzle([6, 7, 6, 7, 6, 7, 6, 7, 6, 7, 6, 7, 6, 7, 6, 7]),
+        d.shuffle(h, [2, 1, 3, 2, 4, 3, 5, 4, 6, 5, 7, 6, 8, 7, 9, 8]),
+    );
     (s0 + s2) + (s4 + s6)
 }
 
@@ -97,7 +127,8 @@ fn pair_sums(a: u16x16, b: u16x16) -> u32x8
     requires { ⌜ Each1 (λ n. n < 16384) b ⌝ }
     ensures { λ r. ⌜ r ≡ pairSums (products a b) ⌝ }
 {
-    // The mask changes no lane. It shows the compiler that a signed instruction, which adds the pairs too, may be used.
+    // The mask changes no lane. It shows the compiler that an instruction for signed numbers serves,
+    // which multiplies and adds pairs.
     let mask = u32x16::splat(0x7fff);
     let p = (a.cast::<u32>() & mask) * (b.cast::<u32>() & mask);
     p.swizzle([0, 2, 4, 6, 8, 10, 12, 14]) + p.swizzle([1, 3, 5, 7, 9, 11, 13, 15])

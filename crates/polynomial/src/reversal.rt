@@ -38,7 +38,10 @@ pub fn to_polynomial<M: Modulus>(x: LongTower<M>) -> PolynomialBasis<M>
         high.a1.a0.number(),
         high.a1.a1.number(),
     ];
-    PolynomialBasis { kept: bit_reversed(list), modulus: M::marker() }
+    PolynomialBasis {
+        kept: bit_reversed(list),
+        modulus: M::marker(),
+    }
 }
 
 // The same value in the long tower.
@@ -57,7 +60,13 @@ pub fn to_tower<M: Modulus>(x: PolynomialBasis<M>) -> LongTower<M>
 fn four<M: Modulus>(c0: u16, c1: u16, c2: u16, c3: u16) -> Quadratic<Quadratic<Coefficient<M>>>
     ensures { λ r. ⌜ quadratic (short-tower (M·Modulus .q) (M·Modulus .root)) .meaning r ≡ remainders (M·Modulus .q) (c0 ∷ c1 ∷ c2 ∷ c3 ∷ []) ⌝ }
 {
-    let low = Quadratic { a0: Coefficient::remainder_of(c0), a1: Coefficient::remainder_of(c1) };
-    let high = Quadratic { a0: Coefficient::remainder_of(c2), a1: Coefficient::remainder_of(c3) };
+    let low = Quadratic {
+        a0: Coefficient::remainder_of(c0),
+        a1: Coefficient::remainder_of(c1),
+    };
+    let high = Quadratic {
+        a0: Coefficient::remainder_of(c2),
+        a1: Coefficient::remainder_of(c3),
+    };
     Quadratic { a0: low, a1: high }
 }

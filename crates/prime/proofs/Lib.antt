@@ -1,4 +1,5 @@
 pub mod Remainders
 pub mod ComputedTests
 pub mod InverseTables
+pub mod Primes
 pub mod ResidueLaws

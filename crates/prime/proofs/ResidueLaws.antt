@@ -49,12 +49,12 @@ module _ {V : Type 0} (q width root : ℕ) (p : Prime-modulus q width root) (kep
       distributes = λ x y z. ap just (times-mod-right (kept x % q) (kept y % q + kept z % q) q ∙ ap (λ (t : ℕ). t % q) (mul-add _ _ _) ∙ sym (mod-add-mod _ q _ ∙ add-mod-mod _ _ q));
       zero-is-not-one = λ h. let e : _≡_ {A = ℕ} 0 1 = ap number h in omega arith;
       inverse-exists = λ x n.
-        let i = p .inverse-exists (kept x % q) (below _) (λ e. n (ap just e)) in
-        let m = make (i .0) in
-        ∣ (m .0, ap just (ap (λ (t : ℕ). (kept x % q * (t % q)) % q) (m .1) ∙ times-mod-right _ _ q ∙ i .1)) ∣₁;
+          let i = p .inverse-exists (kept x % q) (below _) (λ e. n (ap just e)) in
+          let m = make (i .0) in
+          ∣ (m .0, ap just (ap (λ (t : ℕ). (kept x % q * (t % q)) % q) (m .1) ∙ times-mod-right _ _ q ∙ i .1)) ∣₁;
       root-squared =
-        let above = p .above-two in let one-below : 1 < q = omega arith in let last-below : q - 1 < q = omega arith in
-        ap just (p .root-squared ∙ sym (ap (λ (t : ℕ). (q - t) % q) (mod-eq-of-lt one-below) ∙ mod-eq-of-lt last-below));
+          let above = p .above-two in let one-below : 1 < q = omega arith in let last-below : q - 1 < q = omega arith in
+          ap just (p .root-squared ∙ sym (ap (λ (t : ℕ). (q - t) % q) (mod-eq-of-lt one-below) ∙ mod-eq-of-lt last-below));
       non-residue-has-no-root = λ x h. p .two-has-no-root (kept x % q) (below _) (ap number h);
     }
 

@@ -29,7 +29,10 @@ impl<M: Modulus> Coefficient<M> {
         ensures { λ r. ⌜ Built (residues (M·Modulus .q) (M·Modulus .root) (λ x. x .kept)) (residue-layout (M·Modulus .q)) (just number) r ⌝ }
     {
         if number < M::modulus() {
-            Ok(Coefficient { kept: number, modulus: M::marker() })
+            Ok(Coefficient {
+                kept: number,
+                modulus: M::marker(),
+            })
         } else {
             Err(Fault::of_call(Refusal::CoefficientOutOfRange))
         }
@@ -37,9 +40,12 @@ impl<M: Modulus> Coefficient<M> {
 
     // The coefficient that any number leaves.
     pub fn remainder_of(number: u16) -> Self
-        ensures { λ r. ⌜ just (r .kept % M·Modulus .q) ≡ just (number % M·Modulus .q) ⌝ }
+        ensures { λ r. ⌜ r .kept % M·Modulus .q ≡ number % M·Modulus .q ⌝ }
     {
-        Coefficient { kept: number, modulus: M::marker() }
+        Coefficient {
+            kept: number,
+            modulus: M::marker(),
+        }
     }
 
     // The coefficient as a number below the modulus.
@@ -54,26 +60,41 @@ pub impl<M: Modulus> Field for Coefficient<M> as CoefficientField {
     ghost arithmetic = { residues (M·Modulus .q) (M·Modulus .root) (λ x. x .kept) };
 
     fn zero() -> Self {
-        Coefficient { kept: 0, modulus: M::marker() }
+        Coefficient {
+            kept: 0,
+            modulus: M::marker(),
+        }
     }
 
     fn one() -> Self {
-        Coefficient { kept: 1, modulus: M::marker() }
+        Coefficient {
+            kept: 1,
+            modulus: M::marker(),
+        }
     }
 
     fn add(self, other: Self) -> Self {
         let sum = (self.kept as u32 + other.kept as u32) % M::modulus() as u32;
-        Coefficient { kept: sum as u16, modulus: M::marker() }
+        Coefficient {
+            kept: sum as u16,
+            modulus: M::marker(),
+        }
     }
 
     fn neg(self) -> Self {
         let q = M::modulus();
-        Coefficient { kept: (q - self.kept % q) % q, modulus: M::marker() }
+        Coefficient {
+            kept: (q - self.kept % q) % q,
+            modulus: M::marker(),
+        }
     }
 
     fn mul(self, other: Self) -> Self {
         let product = (self.kept as u32 * other.kept as u32) % M::modulus() as u32;
-        Coefficient { kept: product as u16, modulus: M::marker() }
+        Coefficient {
+            kept: product as u16,
+            modulus: M::marker(),
+        }
     }
 
     fn square(self) -> Self {
@@ -84,21 +105,33 @@ pub impl<M: Modulus> Field for Coefficient<M> as CoefficientField {
         if self.kept % M::modulus() == 0 {
             Err(Fault::of_call(Refusal::ZeroHasNoInverse))
         } else {
-            Ok(Coefficient { kept: M::inverse_entry(self.kept), modulus: M::marker() })
+            Ok(Coefficient {
+                kept: M::inverse_entry(self.kept),
+                modulus: M::marker(),
+            })
         }
     }
 
     fn non_residue() -> Self {
-        Coefficient { kept: 2, modulus: M::marker() }
+        Coefficient {
+            kept: 2,
+            modulus: M::marker(),
+        }
     }
 
     fn mul_by_non_residue(self) -> Self {
         let double = (2 * self.kept as u32) % M::modulus() as u32;
-        Coefficient { kept: double as u16, modulus: M::marker() }
+        Coefficient {
+            kept: double as u16,
+            modulus: M::marker(),
+        }
     }
 
     fn sqrt_minus_one() -> Self {
-        Coefficient { kept: M::sqrt_minus_one(), modulus: M::marker() }
+        Coefficient {
+            kept: M::sqrt_minus_one(),
+            modulus: M::marker(),
+        }
     }
 
     fn same(self, other: Self) -> bool {
@@ -123,7 +156,10 @@ pub impl<M: Modulus> Coordinates for Coefficient<M> as CoefficientCoordinates {
 
     fn with_coefficient(self, power: usize, coefficient: u16) -> Self {
         if power == 0 {
-            Coefficient { kept: coefficient, modulus: M::marker() }
+            Coefficient {
+                kept: coefficient,
+                modulus: M::marker(),
+            }
         } else {
             self
         }

@@ -28,9 +28,10 @@ loop-power-again g c =
     let counted : length xs ≡ y .count = eqb-true _ _ (sym (c .has-count .ensures) ∙ c .if-not-has-count .left) in
     let whole : length zs ≡ y .count = g .Self·Coordinates·met .coordinates .counted (c .loop-power .value) in
     let within : i < length xs = c .loop-power-test .taken in
-    let below = rw (c .modulus .ensures) at (c .if-coefficient-modulus .left) in
-    (ap (take (i + 1)) (c .with-coefficient-value .ensures) ∙ one-more-set (y .modulus) xs zs i within (omega arith) below (c .loop-power .inv .0),
-     one-more-in-range (y .modulus) xs i within below (c .loop-power .inv .1))
+    let below = rw (c .modulus .ensures) at (c .if-coefficient-modulus .left) in (
+      ap (take (i + 1)) (c .with-coefficient-value .ensures) ∙ one-more-set (y .modulus) xs zs i within (omega arith) below (c .loop-power .inv .0),
+      one-more-in-range (y .modulus) xs i within below (c .loop-power .inv .1),
+    )
 
 pub returns : need.returns
 returns g c =

@@ -25,6 +25,7 @@ returns g c =
     let x = long-tower q root .meaning (c .to-tower .result) in
     let y = long-tower q root .meaning (c .in-Continue-inverse .inverse) in
     let kept : PolynomialBasis (g .M .Denot) → List ℕ = λ w. w .kept in
-    let back : own ≡ bit-reversed 3 x = sym (reversed-twice own refl) ∙ ap (bit-reversed 3) (sym (c .to-tower .ensures .value)) in
-    ( λ h. c .in-Continue-inverse .ensures tt .0 (c .to-tower .ensures .value ∙ ap (bit-reversed 3) h)
-    , ap₂ (polynomial-times q) back (c .to-polynomial .ensures .value) ∙ reversed-inverse q root kept x y refl refl (c .in-Continue-inverse .ensures tt .1) )
+    let back : own ≡ bit-reversed 3 x = sym (reversed-twice own refl) ∙ ap (bit-reversed 3) (sym (c .to-tower .ensures .value)) in (
+      λ h. c .in-Continue-inverse .ensures tt .0 (c .to-tower .ensures .value ∙ ap (bit-reversed 3) h),
+      ap₂ (polynomial-times q) back (c .to-polynomial .ensures .value) ∙ reversed-inverse q root kept x y refl refl (c .in-Continue-inverse .ensures tt .1),
+    )

@@ -1,0 +1,15 @@
+use mir.Syntax.{w16}
+use Rattle.std.proofs.shelf.Lanes.{below-from-fits}
+use Rattle.polynomial.proofs.Folds.{lanes-by-product-are, power-least, folded-same, folded-small}
+use Rattle.polynomial.proofs.lanes.fold16_by_product.Needs as need
+
+pub sub-result : need.sub-result
+sub-result c = power-least (c .args .width) (c .pre .0) (c .pre .1)
+
+pub returns : need.returns
+returns c =
+    let w = c .args .width in
+    let x = c .args .x in
+    let below = below-from-fits w16 x (c .fits-x .1) in
+    let e = lanes-by-product-are w (c .pre .0) (c .pre .1) x (c .fits-x .0) below in
+    record { same = λ q p. folded-same q w p x _ e; small = folded-small w (c .pre .0) (c .pre .1) x _ e below }
