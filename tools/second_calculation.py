@@ -79,7 +79,7 @@ def by_place(form, powers):
 
 
 # --- Polynomials modulo X^c - 2 over the prime field -------------------------
-# A polynomial is a list of c numbers 0..q-1, by power of X.
+# A polynomial is a list of c numbers from 0 to below q, by power of X.
 
 
 def constant(form, number):
