@@ -1,9 +1,8 @@
 -- Building a value coefficient by coefficient.
-use mathlib.Core.Path.{_≡_, refl, sym, ap, ap₂, _∙_}
+use mathlib.Core.Path.{_≡_, refl, sym, ap, _∙_}
 use mathlib.Core.Bool.{true, false, cond}
 use mathlib.Core.List.{List, [], _∷_, _++_}
-use Prim.Native.Nat.{ℕ, _+_, _%_, _<_, _≤_}
-use native.Mathlib.Nat.{mod-eq-of-lt}
+use Prim.Native.Nat.{ℕ, _+_, _<_, _≤_}
 use native.Mathlib.Omega.{arith}
 use borrow.Author.Tests.{eqb-true, eq-eqb, ne-eqb, lt-ltb, le-ltb}
 use lib.Dec.{eqb, ltb}
@@ -34,6 +33,5 @@ module _ (y : Layout) (xs : List ℕ) (counted : eqb (length xs) (y .count) ≡ 
 pub one-more-in-range : (q : ℕ) (xs : List ℕ) (i : ℕ) → i < length xs → getD xs i 0 < q → i + below-before q (drop i xs) ≡ below-before q xs → (i + 1) + below-before q (drop (i + 1) xs) ≡ below-before q xs
 one-more-in-range q xs i h below e = let more = leading-drop-yes (λ x. ltb x q) xs i 0 h (lt-ltb _ _ below) in omega arith
 
-pub one-more-set : (q : ℕ) (xs zs : List ℕ) (i : ℕ) → i < length xs → i < length zs → getD xs i 0 < q → take i zs ≡ take i xs → take (i + 1) (set zs i (getD xs i 0 % q)) ≡ take (i + 1) xs
-one-more-set q xs zs i h k below e =
-    take-more-set zs i (getD xs i 0 % q) k ∙ ap₂ (λ (ts : List ℕ) (v : ℕ). ts ++ v ∷ []) e (mod-eq-of-lt below) ∙ sym (take-more xs i 0 h)
+pub one-more-set : (xs zs : List ℕ) (i : ℕ) → i < length xs → i < length zs → take i zs ≡ take i xs → take (i + 1) (set zs i (getD xs i 0)) ≡ take (i + 1) xs
+one-more-set xs zs i h k e = take-more-set zs i (getD xs i 0) k ∙ ap (λ (ts : List ℕ). ts ++ getD xs i 0 ∷ []) e ∙ sym (take-more xs i 0 h)

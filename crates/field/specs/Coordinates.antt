@@ -2,9 +2,9 @@
 use mathlib.Core.Path.{_≡_}
 use mathlib.Core.Bool.{cond}
 use mathlib.Core.List.{List, [], _∷_}
-use Prim.Native.Nat.{ℕ, _+_, _<_}
+use Prim.Native.Nat.{ℕ, _+_, _<_, _≤_}
 use lib.Dec.{eqb, ltb}
-use lib.ListN.{length, take, drop, replicate}
+use lib.ListN.{length, take, drop, set, replicate}
 use lib.Lanes.{Each1}
 use Rattle.std.specs.shelf.Lists.{leading}
 use Rattle.std.specs.declared.result.Result.{Result}
@@ -54,6 +54,11 @@ coefficients l xs =
     cond (eqb (length xs) (l .count))
     (cond (eqb (below-before (l .modulus) xs) (length xs)) (Ok xs) (Err (fault 1 Call (below-before (l .modulus) xs))))
     (Err (fault 3 Call 0))
+
+-- The answer that puts another coefficient c at a power of x: refusal 1 at that power where c is not below the modulus.
+abbrev pub Replaced : {V : Type 0} → Arithmetic V → Layout → V → ℕ → ℕ → Result V Fault → Type 0
+Replaced a l x power c (Ok v) = (c < l .modulus) × (l .by-power (a .meaning v) ≡ set (l .by-power (a .meaning x)) power c)
+Replaced a l x power c (Err f) = (l .modulus ≤ c) × (f ≡ fault 1 Call power)
 
 -- The answer that builds a value from a list: the value that has these coefficients by power, or the list's refusal.
 abbrev pub Built : {V : Type 0} → Arithmetic V → Layout → List ℕ → Result V Fault → Type 0

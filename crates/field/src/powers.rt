@@ -1,9 +1,8 @@
 //! Coefficients by power of X.
 ghost use mathlib.Core.Path.{_≡_};
-ghost use Prim.Native.Nat.{ℕ, _%_};
 ghost use lib.Dec.{eqb};
-ghost use lib.ListN.{getD, set};
-ghost use Rattle.field.specs.Coordinates.{Layout, Coordinate-laws, Built, extension-layout};
+ghost use lib.ListN.{getD};
+ghost use Rattle.field.specs.Coordinates.{Layout, Coordinate-laws, Replaced, Built, extension-layout};
 use super::extension::Quadratic;
 use super::extension::QuadraticField;
 use super::interface::Field;
@@ -29,8 +28,11 @@ pub trait Coordinates: Field {
         ensures { λ r. ⌜ r ≡ getD (layout .by-power (Self·Field .arithmetic .meaning self)) power 0 ⌝ };
 
     // The value with another coefficient at a power, and the same value where it has none there.
-    fn with_coefficient(self, power: usize, coefficient: u16) -> Self
-        ensures { λ r. ⌜ layout .by-power (Self·Field .arithmetic .meaning r) ≡ set (layout .by-power (Self·Field .arithmetic .meaning self)) power (coefficient % layout .modulus) ⌝ };
+    // A number that is not below the modulus is refused with 1 at that power.
+    fn with_coefficient(self, power: usize, coefficient: u16) -> Result<Self, Fault>
+    where
+        Self: Sized,
+        ensures { λ r. ⌜ Replaced (Self·Field .arithmetic) layout self power coefficient r ⌝ };
 
     // The value with these coefficients by power: refused with 3 for another count of them than a value has,
     // then with 1 at the first power whose coefficient is not below the modulus.
@@ -44,10 +46,7 @@ pub trait Coordinates: Field {
         }
         let mut value = Self::zero();
         for (power, coefficient) in coefficients.iter().enumerate() {
-            if *coefficient >= Self::modulus() {
-                return Err(Fault::new(Refusal::CoefficientOutOfRange, Part::Call, power));
-            }
-            value = value.with_coefficient(power, *coefficient);
+            value = value.with_coefficient(power, *coefficient)?;
         }
         Ok(value)
     }
@@ -72,17 +71,16 @@ pub impl<F: Coordinates> Coordinates for Quadratic<F> as QuadraticCoordinates {
         }
     }
 
-    fn with_coefficient(self, power: usize, coefficient: u16) -> Self {
+    fn with_coefficient(self, power: usize, coefficient: u16) -> Result<Self, Fault> {
+        if coefficient >= F::modulus() {
+            return Err(Fault::new(Refusal::CoefficientOutOfRange, Part::Call, power));
+        }
         if power % 2 == 0 {
-            Quadratic {
-                a0: self.a0.with_coefficient(power / 2, coefficient),
-                a1: self.a1,
-            }
+            let a0 = self.a0.with_coefficient(power / 2, coefficient)?;
+            Ok(Quadratic { a0, a1: self.a1 })
         } else {
-            Quadratic {
-                a0: self.a0,
-                a1: self.a1.with_coefficient(power / 2, coefficient),
-            }
+            let a1 = self.a1.with_coefficient(power / 2, coefficient)?;
+            Ok(Quadratic { a0: self.a0, a1 })
         }
     }
 }

@@ -7,6 +7,8 @@ use super::lanes;
 use super::reversal::to_polynomial;
 use super::reversal::to_tower;
 use fault::Fault;
+use fault::Part;
+use fault::Refusal;
 use field::Coordinates;
 use field::Field;
 use field::QuadraticField;
@@ -127,15 +129,18 @@ pub impl<M: Modulus> Coordinates for PolynomialBasis<M> as PolynomialCoordinates
         }
     }
 
-    fn with_coefficient(self, power: usize, coefficient: u16) -> Self {
+    fn with_coefficient(self, power: usize, coefficient: u16) -> Result<Self, Fault> {
+        if coefficient >= M::modulus() {
+            return Err(Fault::new(Refusal::CoefficientOutOfRange, Part::Call, power));
+        }
         if power >= 8 {
-            return self;
+            return Ok(self);
         }
         let mut kept = self.kept;
         kept[power] = coefficient;
-        PolynomialBasis {
+        Ok(PolynomialBasis {
             kept,
             modulus: M::marker(),
-        }
+        })
     }
 }

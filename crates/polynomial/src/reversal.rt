@@ -1,7 +1,9 @@
 //! Bit reversal: from the order of a long tower to powers of X, and back.
 ghost use mathlib.Core.Path.{_≡_};
 ghost use mathlib.Core.List.{[], _∷_};
-ghost use Rattle.prime.specs.Towers.{quadratic, short-tower, long-tower};
+ghost use Prim.Native.Nat.{_%_};
+ghost use Rattle.prime.specs.Residues.{just};
+ghost use Rattle.prime.specs.Towers.{coefficient-field, quadratic, short-tower, long-tower};
 ghost use Rattle.polynomial.specs.Product.{remainders};
 ghost use Rattle.polynomial.specs.Polynomials.{polynomials};
 ghost use Rattle.polynomial.specs.BitReversal.{bit-reversed as reversed, Keeps-sums-and-products};
@@ -61,12 +63,22 @@ fn four<M: Modulus>(c0: u16, c1: u16, c2: u16, c3: u16) -> Quadratic<Quadratic<C
     ensures { λ r. ⌜ quadratic (short-tower (M·Modulus .q) (M·Modulus .root)) .meaning r ≡ remainders (M·Modulus .q) (c0 ∷ c1 ∷ c2 ∷ c3 ∷ []) ⌝ }
 {
     let low = Quadratic {
-        a0: Coefficient::remainder_of(c0),
-        a1: Coefficient::remainder_of(c1),
+        a0: remainder(c0),
+        a1: remainder(c1),
     };
     let high = Quadratic {
-        a0: Coefficient::remainder_of(c2),
-        a1: Coefficient::remainder_of(c3),
+        a0: remainder(c2),
+        a1: remainder(c3),
     };
     Quadratic { a0: low, a1: high }
+}
+
+// The coefficient that a number leaves.
+fn remainder<M: Modulus>(number: u16) -> Coefficient<M>
+    ensures { λ r. ⌜ coefficient-field (M·Modulus .q) (M·Modulus .root) .meaning r ≡ just (number % M·Modulus .q) ⌝ }
+{
+    match Coefficient::new(number % M::modulus()) {
+        Ok(coefficient) => coefficient,
+        Err(_) => unreachable(),
+    }
 }

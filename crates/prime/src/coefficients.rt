@@ -6,6 +6,7 @@ ghost use Rattle.field.specs.Coordinates.{Built};
 ghost use Rattle.prime.specs.Residues.{residues, residue-layout, just};
 use super::moduli::Modulus;
 use fault::Fault;
+use fault::Part;
 use fault::Refusal;
 use field::Coordinates;
 use field::Field;
@@ -35,16 +36,6 @@ impl<M: Modulus> Coefficient<M> {
             })
         } else {
             Err(Fault::of_call(Refusal::CoefficientOutOfRange))
-        }
-    }
-
-    // The coefficient that any number leaves.
-    pub fn remainder_of(number: u16) -> Self
-        ensures { λ r. ⌜ r .kept % M·Modulus .q ≡ number % M·Modulus .q ⌝ }
-    {
-        Coefficient {
-            kept: number,
-            modulus: M::marker(),
         }
     }
 
@@ -154,14 +145,17 @@ pub impl<M: Modulus> Coordinates for Coefficient<M> as CoefficientCoordinates {
         if power == 0 { self.number() } else { 0 }
     }
 
-    fn with_coefficient(self, power: usize, coefficient: u16) -> Self {
+    fn with_coefficient(self, power: usize, coefficient: u16) -> Result<Self, Fault> {
+        if coefficient >= M::modulus() {
+            return Err(Fault::new(Refusal::CoefficientOutOfRange, Part::Call, power));
+        }
         if power == 0 {
-            Coefficient {
+            Ok(Coefficient {
                 kept: coefficient,
                 modulus: M::marker(),
-            }
+            })
         } else {
-            self
+            Ok(self)
         }
     }
 }
