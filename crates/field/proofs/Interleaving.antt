@@ -7,7 +7,7 @@ use native.Mathlib.Omega.{arith}
 use lib.ListN.{length, take, drop, getD, set, replicate}
 use lib.Lanes.{Each1}
 use lib.Seq.{take-append-seam, drop-append-seam}
-use Rattle.field.specs.Coordinates.{interleaved}
+use Rattle.field.specs.Coordinates.{interleaved, evens, odds}
 
 pub front : (n : ℕ) (xs ys : List ℕ) → length xs ≡ n → take n (xs ++ ys) ≡ xs
 front n xs ys e = rw (← e) (take-append-seam xs ys)
@@ -75,32 +75,41 @@ each-interleaved P [] ys p q = q
 each-interleaved P (x ∷ xs) [] p q = p
 each-interleaved P (x ∷ xs) (y ∷ ys) p q = (p .0, (q .0, each-interleaved P xs ys (p .1) (q .1)))
 
--- every second number, from the first on and from the second on
-abbrev evens : List ℕ → List ℕ
-evens [] = []
-evens (x ∷ []) = x ∷ []
-evens (x ∷ y ∷ zs) = x ∷ evens zs
-
-abbrev odds : List ℕ → List ℕ
-odds [] = []
-odds (x ∷ []) = []
-odds (x ∷ y ∷ zs) = y ∷ odds zs
-
-evens-interleaved : (xs ys : List ℕ) → length xs ≡ length ys → evens (interleaved xs ys) ≡ xs
+pub evens-interleaved : (xs ys : List ℕ) → length xs ≡ length ys → evens (interleaved xs ys) ≡ xs
 evens-interleaved [] [] e = refl
 evens-interleaved [] (y ∷ ys) e = absurd (suc-ne-zero (length ys) (sym e))
 evens-interleaved (x ∷ xs) [] e = absurd (suc-ne-zero (length xs) e)
 evens-interleaved (x ∷ xs) (y ∷ ys) e = ap (λ (t : List ℕ). x ∷ t) (evens-interleaved xs ys (suc-inj e))
 
-odds-interleaved : (xs ys : List ℕ) → length xs ≡ length ys → odds (interleaved xs ys) ≡ ys
+pub odds-interleaved : (xs ys : List ℕ) → length xs ≡ length ys → odds (interleaved xs ys) ≡ ys
 odds-interleaved [] [] e = refl
 odds-interleaved [] (y ∷ ys) e = absurd (suc-ne-zero (length ys) (sym e))
 odds-interleaved (x ∷ xs) [] e = absurd (suc-ne-zero (length xs) e)
 odds-interleaved (x ∷ xs) (y ∷ ys) e = ap (λ (t : List ℕ). y ∷ t) (odds-interleaved xs ys (suc-inj e))
 
-pub interleaved-injective : (xs ys us vs : List ℕ) → length xs ≡ length ys → length us ≡ length vs → interleaved xs ys ≡ interleaved us vs → (xs ≡ us) × (ys ≡ vs)
-interleaved-injective xs ys us vs p q h =
-    (sym (evens-interleaved xs ys p) ∙ ap evens h ∙ evens-interleaved us vs q, sym (odds-interleaved xs ys p) ∙ ap odds h ∙ odds-interleaved us vs q)
+pub halves-interleaved : (n : ℕ) (xs : List ℕ) → length xs ≡ n + n → interleaved (evens xs) (odds xs) ≡ xs
+halves-interleaved zero [] e = refl
+halves-interleaved zero (x ∷ xs) e = absurd (suc-ne-zero (length xs) e)
+halves-interleaved (suc n) [] e = absurd (suc-ne-zero (n + suc n) (sym (e ∙ omega arith)))
+halves-interleaved (suc n) (x ∷ []) e = let never : ⊥ = omega arith in absurd never
+halves-interleaved (suc n) (x ∷ y ∷ zs) e = ap (λ (t : List ℕ). x ∷ y ∷ t) (halves-interleaved n zs (omega arith))
+
+pub halves-length : (n : ℕ) (xs : List ℕ) → length xs ≡ n + n → (length (evens xs) ≡ n) × (length (odds xs) ≡ n)
+halves-length zero [] e = (refl, refl)
+halves-length zero (x ∷ xs) e = absurd (suc-ne-zero (length xs) e)
+halves-length (suc n) [] e = let never : ⊥ = omega arith in absurd never
+halves-length (suc n) (x ∷ []) e = let never : ⊥ = omega arith in absurd never
+halves-length (suc n) (x ∷ y ∷ zs) e = let r = halves-length n zs (omega arith) in (ap suc (r .0), ap suc (r .1))
+
+pub each-evens : (P : ℕ → Type 0) (xs : List ℕ) → Each1 P xs → Each1 P (evens xs)
+each-evens P [] p = tt
+each-evens P (x ∷ []) p = p
+each-evens P (x ∷ y ∷ zs) p = (p .0, each-evens P zs (p .1 .1))
+
+pub each-odds : (P : ℕ → Type 0) (xs : List ℕ) → Each1 P xs → Each1 P (odds xs)
+each-odds P [] p = tt
+each-odds P (x ∷ []) p = tt
+each-odds P (x ∷ y ∷ zs) p = (p .1 .0, each-odds P zs (p .1 .1))
 
 pub interleaved-replicate : (n v : ℕ) → interleaved (replicate n v) (replicate n v) ≡ replicate (n + n) v
 interleaved-replicate zero v = refl

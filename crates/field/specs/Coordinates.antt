@@ -1,7 +1,7 @@
 -- Coefficients by power: how a value's meaning is a list of coefficients of 1, X, X², .. below a modulus.
 use mathlib.Core.Path.{_≡_}
 use mathlib.Core.Bool.{cond}
-use mathlib.Core.List.{List, [], _∷_}
+use mathlib.Core.List.{List, [], _∷_, _++_}
 use Prim.Native.Nat.{ℕ, _+_, _<_, _≤_}
 use lib.Dec.{eqb, ltb}
 use lib.ListN.{length, take, drop, set, replicate}
@@ -12,13 +12,15 @@ use Rattle.std.specs.declared.result.Result.the-variants.{Ok, Err}
 use Rattle.fault.specs.declared.Fault.{Fault}
 use Rattle.fault.specs.declared.Part.the-variants.{Call}
 use Rattle.fault.specs.Faults.{fault}
-use Rattle.field.specs.Fields.{Arithmetic}
+use Rattle.field.specs.Fields.{Arithmetic, Meant}
 
--- How many coefficients there are, below which modulus, and the list of them by power that a meaning has.
+-- How many coefficients there are, below which modulus, the list of them by power that a meaning has,
+-- and the meaning that has a list of them.
 pub record Layout : Type 0 where
   pub count : ℕ
   pub modulus : ℕ
   pub by-power : List ℕ → List ℕ
+  pub from-power : List ℕ → List ℕ
 
 -- even places hold the first list, odd places the second
 abbrev pub interleaved : List ℕ → List ℕ → List ℕ
@@ -26,21 +28,38 @@ interleaved [] ys = ys
 interleaved (x ∷ xs) [] = x ∷ xs
 interleaved (x ∷ xs) (y ∷ ys) = x ∷ y ∷ interleaved xs ys
 
+-- what stands at the even places, and at the odd ones
+abbrev pub evens : List ℕ → List ℕ
+evens [] = []
+evens (x ∷ []) = x ∷ []
+evens (x ∷ y ∷ zs) = x ∷ evens zs
+
+abbrev pub odds : List ℕ → List ℕ
+odds [] = []
+odds (x ∷ []) = []
+odds (x ∷ y ∷ zs) = y ∷ odds zs
+
 -- In a quadratic extension the even powers hold a0's coefficients by power, the odd ones a1's.
 abbrev pub extension-layout : Layout → Layout
 extension-layout l = record {
   count = l .count + l .count;
   modulus = l .modulus;
   by-power = λ x. interleaved (l .by-power (take (l .count) x)) (l .by-power (drop (l .count) x));
+  from-power = λ xs. l .from-power (evens xs) ++ l .from-power (odds xs);
 }
 
--- What coefficients by power owe: each meaning has `count` of them, each below the modulus; a meaning is known by them;
--- and those of zero are all 0.
+-- a list of coefficients by power: as many as there are, each below the modulus
+abbrev pub Coefficients : Layout → List ℕ → Type 0
+Coefficients l xs = (length xs ≡ l .count) × Each1 (λ n. n < l .modulus) xs
+
+-- What coefficients by power owe: those of a meaning are a list of coefficients, and give the meaning back;
+-- a list of coefficients is that of a meaning; and those of zero are all 0.
 pub record Coordinate-laws {V : Type 0} (a : Arithmetic V) (l : Layout) : Type 0 where
   pub size-is-count : a .size ≡ l .count
-  pub counted : (x : V) → length (l .by-power (a .meaning x)) ≡ l .count
-  pub below-modulus : (x : V) → Each1 (λ n. n < l .modulus) (l .by-power (a .meaning x))
-  pub known-by-power : (x y : V) → l .by-power (a .meaning x) ≡ l .by-power (a .meaning y) → a .meaning x ≡ a .meaning y
+  pub told : (x : V) → Coefficients l (l .by-power (a .meaning x))
+  pub told-back : (x : V) → l .from-power (l .by-power (a .meaning x)) ≡ a .meaning x
+  pub meant : (xs : List ℕ) → Coefficients l xs → Meant a (l .from-power xs)
+  pub meant-back : (xs : List ℕ) → Coefficients l xs → l .by-power (l .from-power xs) ≡ xs
   pub zero-tells-zero : l .by-power (a .zero) ≡ replicate (l .count) 0
 
 -- how many numbers of the list come before the first that is q or more

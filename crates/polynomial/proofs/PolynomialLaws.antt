@@ -1,9 +1,10 @@
 -- The polynomial basis is a field: its laws are carried over from the tower of three extensions.
 use mathlib.Core.Path.{_≡_, refl, sym, ap, ap₂, _∙_}
-use mathlib.Core.List.{List, [], _∷_}
+use mathlib.Core.List.{List, [], _∷_, map-id}
 use Prim.Native.Nat.{ℕ, zero, suc, _%_, _<_}
-use native.Mathlib.Nat.{mod-lt}
+use native.Mathlib.Nat.{mod-lt, mod-eq-of-lt}
 use lib.ListN.{length, getD, set, length-set}
+use lib.Lanes.{Each1}
 use Rattle.field.specs.Fields.{Arithmetic, Laws}
 use Rattle.field.specs.Extensions.{Tower, tower}
 use Rattle.field.specs.Coordinates.{Coordinate-laws}
@@ -15,11 +16,15 @@ use Rattle.prime.proofs.ResidueLaws.{residue-laws, positive}
 use Rattle.polynomial.specs.Product.{remainders}
 use Rattle.polynomial.specs.Polynomials.{polynomials, polynomial-layout, eight-remainders}
 use Rattle.polynomial.specs.BitReversal.{bit-reversed}
-use Rattle.polynomial.proofs.Lists.{of-eight}
+use Rattle.polynomial.proofs.Lists.{of-eight, map-where}
 use Rattle.polynomial.proofs.Reversals.{reversal-carries}
 
 pub eight-of-eight : (q : ℕ) (xs : List ℕ) → length xs ≡ 8 → eight-remainders q xs ≡ remainders q xs
 eight-of-eight q = of-eight (λ xs. eight-remainders q xs ≡ remainders q xs) (λ a b c d e f g h. refl)
+
+-- numbers below q are their own remainders
+own-remainders : (q : ℕ) (xs : List ℕ) → Each1 (λ n. n < q) xs → remainders q xs ≡ xs
+own-remainders q xs b = map-where (λ n. n % q) (λ n. n) (λ n. n < q) (λ n h. mod-eq-of-lt h) xs b ∙ map-id xs
 
 pub reversed-remainders : (q : ℕ) (xs : List ℕ) → length xs ≡ 8 → eight-remainders q (bit-reversed 3 xs) ≡ bit-reversed 3 (eight-remainders q xs)
 reversed-remainders q = of-eight (λ xs. eight-remainders q (bit-reversed 3 xs) ≡ bit-reversed 3 (eight-remainders q xs)) (λ a b c d e f g h. refl)
@@ -60,11 +65,12 @@ module _ {W : Type 0} (q width root : ℕ) (p : Prime-modulus q width root) (kep
   below : (n : ℕ) → n % q < q
   below n = mod-lt n (positive q width root p (λ (m : ℕ). m))
 
-  pub polynomial-coordinate-laws : Coordinate-laws (polynomials q root kept) (polynomial-layout q)
-  polynomial-coordinate-laws = record {
+  pub polynomial-coordinate-laws : ((xs : List ℕ) → (w : W) × (kept w ≡ xs)) → Coordinate-laws (polynomials q root kept) (polynomial-layout q)
+  polynomial-coordinate-laws make = record {
     size-is-count = refl;
-    counted = λ x. refl;
-    below-modulus = λ x. (below _, (below _, (below _, (below _, (below _, (below _, (below _, (below _, tt))))))));
-    known-by-power = λ x y h. h;
+    told = λ x. (refl, (below _, (below _, (below _, (below _, (below _, (below _, (below _, (below _, tt)))))))));
+    told-back = λ x. refl;
+    meant = λ xs c. let m = make xs in ∣ (m .0, ap (eight-remainders q) (m .1) ∙ eight-of-eight q xs (c .0) ∙ own-remainders q xs (c .1)) ∣₁;
+    meant-back = λ xs c. refl;
     zero-tells-zero = refl;
   }

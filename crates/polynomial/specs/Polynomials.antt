@@ -30,4 +30,4 @@ polynomials q root kept = record {
 }
 
 abbrev pub polynomial-layout : ℕ → Layout
-polynomial-layout q = record { count = 8; modulus = q; by-power = λ x. x }
+polynomial-layout q = record { count = 8; modulus = q; by-power = λ x. x; from-power = λ xs. xs }

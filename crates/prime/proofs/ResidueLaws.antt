@@ -3,10 +3,11 @@ use mathlib.Core.Path.{_≡_, refl, sym, ap, _∙_}
 use mathlib.Core.Logic.{_≢_}
 use mathlib.Core.List.{List, [], _∷_}
 use Prim.Native.Nat.{ℕ, _+_, _-_, _*_, _%_, _<_, _≤_}
-use native.Mathlib.Nat.{mod-lt, mod-mod, mod-add-mod, add-mod-mod, mod-eq-of-lt, mod-self, add-comm, add-assoc, mul-comm, mul-assoc, mul-add, add-zero, mul-one}
+use native.Mathlib.Nat.{mod-lt, mod-mod, mod-add-mod, add-mod-mod, mod-eq-of-lt, mod-self, add-comm, add-assoc, mul-comm, mul-assoc, mul-add, add-zero, mul-one, suc-inj, suc-ne-zero}
 use native.Mathlib.Omega.{arith}
+use lib.ListN.{length}
 use Rattle.field.specs.Fields.{Arithmetic, Laws, Meant}
-use Rattle.field.specs.Coordinates.{Coordinate-laws}
+use Rattle.field.specs.Coordinates.{Coefficients, Coordinate-laws}
 use Rattle.prime.specs.Moduli.{Prime-modulus}
 use Rattle.prime.specs.Residues.{residues, residue-layout, number, just}
 use Rattle.prime.proofs.Remainders.{times-mod-left, times-mod-right}
@@ -58,11 +59,17 @@ module _ {V : Type 0} (q width root : ℕ) (p : Prime-modulus q width root) (kep
       non-residue-has-no-root = λ x h. p .two-has-no-root (kept x % q) (below _) (ap number h);
     }
 
-  pub residue-coordinate-laws : Coordinate-laws (residues q root kept) (residue-layout q)
-  residue-coordinate-laws = record {
-    size-is-count = refl;
-    counted = λ x. refl;
-    below-modulus = λ x. (below (kept x), tt);
-    known-by-power = λ x y h. h;
-    zero-tells-zero = refl;
-  }
+    meant-list : (xs : List ℕ) → Coefficients (residue-layout q) xs → Meant (residues q root kept) xs
+    meant-list [] c = absurd (suc-ne-zero 0 (sym (c .0)))
+    meant-list (n ∷ []) c = meant n (c .1 .0)
+    meant-list (n ∷ m ∷ xs) c = absurd (suc-ne-zero (length xs) (suc-inj (c .0)))
+
+    pub residue-coordinate-laws : Coordinate-laws (residues q root kept) (residue-layout q)
+    residue-coordinate-laws = record {
+      size-is-count = refl;
+      told = λ x. (refl, (below (kept x), tt));
+      told-back = λ x. refl;
+      meant = meant-list;
+      meant-back = λ xs c. refl;
+      zero-tells-zero = refl;
+    }

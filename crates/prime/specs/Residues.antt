@@ -29,4 +29,4 @@ residues q root kept = record {
 
 -- the one coefficient, at power 0
 abbrev pub residue-layout : ℕ → Layout
-residue-layout q = record { count = 1; modulus = q; by-power = λ x. x }
+residue-layout q = record { count = 1; modulus = q; by-power = λ x. x; from-power = λ xs. xs }

@@ -25,7 +25,7 @@ loop-power-again g c =
     let i = c .loop-power .power in
     let zs = y .by-power (g .Self·Field .arithmetic .meaning (c .loop-power .value)) in
     let counted : length xs ≡ y .count = eqb-true _ _ (sym (c .has-count .ensures) ∙ c .if-not-has-count .left) in
-    let whole : length zs ≡ y .count = g .Self·Coordinates·met .coordinates .counted (c .loop-power .value) in
+    let whole : length zs ≡ y .count = g .Self·Coordinates·met .coordinates .told (c .loop-power .value) .0 in
     let within : i < length xs = c .loop-power-test .taken in (
       ap (take (i + 1)) (c .in-Continue-value .ensures tt .1) ∙ one-more-set xs zs i within (omega arith) (c .loop-power .inv .0),
       one-more-in-range (y .modulus) xs i within (c .in-Continue-value .ensures tt .0) (c .loop-power .inv .1),
@@ -39,7 +39,7 @@ returns g c =
     let zs = y .by-power (g .Self·Field .arithmetic .meaning (c .loop-power .value)) in
     let counted = sym (c .has-count .ensures) ∙ c .if-not-has-count .left in
     let n : length xs ≡ y .count = eqb-true _ _ counted in
-    let whole : length zs ≡ y .count = g .Self·Coordinates·met .coordinates .counted (c .loop-power .value) in
+    let whole : length zs ≡ y .count = g .Self·Coordinates·met .coordinates .told (c .loop-power .value) .0 in
     let past : length xs ≤ i = c .loop-power-test .left in
     let end : i ≡ length xs = omega arith in
     let same : zs ≡ xs = sym (take-all i zs (omega arith)) ∙ c .loop-power .inv .0 ∙ take-all i xs (omega arith) in
