@@ -11,3 +11,4 @@ pub mod Interleaving
 pub mod ExtensionCoordinates
 pub mod Building
 pub mod Transport
+pub mod Polynomials

@@ -1,0 +1,4 @@
+pub mod Bodies
+pub mod Tags
+pub mod KeyBound
+pub mod Tickets
