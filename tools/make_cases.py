@@ -24,20 +24,33 @@ MODULI = (4093, 1021)
 COUNTS = {"prime": 1, "short": 2, "long": 8, "poly": 8}
 FORMS = [(family, q) for q in MODULI for family in COUNTS]
 LONG_POWERS = (0, 4, 2, 6, 1, 5, 3, 7)
+# The forms with encodings; the bytes of an encoding and of a full block.
+SIZES = {
+    ("short", 4093): (3, 2), ("long", 4093): (12, 11), ("poly", 4093): (12, 11),
+    ("short", 1021): (3, 2), ("long", 1021): (10, 9), ("poly", 1021): (10, 9),
+}
+WIDTHS = {4093: 12, 1021: 10}
 THIRTY_DIGITS = 123456789012345678901234567890
 
 NO_FORM = "? no such form"
 NO_OPERATION = "? no such operation"
 WRONG_NUMBER = "? wrong number of arguments"
 NOT_A_VALUE = "? not a value"
+NOT_A_NUMBER = "? not a number"
+NOT_BYTES = "? not bytes"
 NOT_TEXT = "? not text"
 TOO_LONG = "? line too long"
 ZERO_INVERSE = "refused 2 0 0"
 WRONG_COUNT = "refused 3 0 0"
+WRONG_PADDING = "refused 4 0 0"
+WRONG_LENGTH = "refused 5 0 0"
+NUMBER_TOO_LARGE = "refused 8 0 0"
+ROUTE_TOO_LARGE = "refused 17 0 0"
+KEY, PAD = 1, 2
 
 
-def out_of_range(power):
-    return "refused 1 0 %d" % power
+def out_of_range(power, part=0):
+    return "refused 1 %d %d" % (part, power)
 
 
 def power_of(family, place):
@@ -57,6 +70,9 @@ class Draw:
     def value(self, family, q):
         """Every coefficient nonzero, so that no place goes unnoticed."""
         return [1 + self.below(q - 1) for _ in range(COUNTS[family])]
+
+    def bytes(self, count):
+        return bytes(self.below(256) for _ in range(count))
 
 
 class Cases:
@@ -85,13 +101,20 @@ class Cases:
         return self.raw(line.encode("ascii"), expected)
 
     def ask(self, form, operation, *arguments, expected=None):
-        """A command on values given as lists or as text; expected likewise."""
+        """A command on values given as in notation; expected likewise."""
         words = ["%s-%d" % form, operation] + [notation(each) for each in arguments]
         return self.text(" ".join(words), None if expected is None else notation(expected))
 
 
 def notation(value):
-    return value if isinstance(value, str) else ",".join(str(number) for number in value)
+    """Text as it is, one number, bytes, or a list of numbers."""
+    if isinstance(value, str):
+        return value
+    if isinstance(value, int):
+        return str(value)
+    if isinstance(value, bytes):
+        return "".join("%02X" % byte for byte in value) or "-"
+    return ",".join(str(number) for number in value)
 
 
 def single(family, place, number):
@@ -642,6 +665,515 @@ def long_lines(cases):
     cases.text("prime-4093 neg 9", "4084")
 
 
+# --- Encodings, blocks and tags ----------------------------------------------
+
+
+def turned(family, numbers):
+    """From the form's own order to that by power, or back: the same exchange."""
+    return [numbers[power_of(family, place)] for place in range(COUNTS[family])]
+
+
+def binary(number, digits):
+    return format(number, "0%db" % digits)
+
+
+def from_binary(digits):
+    assert len(digits) % 8 == 0
+    return bytes(int(digits[start : start + 8], 2) for start in range(0, len(digits), 8))
+
+
+def encoded(form, powers, padding=None):
+    """The encoding of numbers by power, also of numbers out of range, by
+    writing down the binary digits of each; padding is text of 0 and 1."""
+    digits = "".join(binary(number, WIDTHS[form[1]]) for number in powers)
+    return from_binary(digits + ("0" * (-len(digits) % 8) if padding is None else padding))
+
+
+def cut_block(form, block):
+    """The coefficients by power of a block, by cutting its binary digits."""
+    group = WIDTHS[form[1]] - 1
+    digits = "".join(binary(byte, 8) for byte in block).ljust(group * COUNTS[form[0]], "0")
+    return [int(digits[start : start + group], 2) for start in range(0, len(digits), group)]
+
+
+def with_byte(content, place, byte):
+    return content[:place] + bytes([byte]) + content[place + 1 :]
+
+
+def known_encodings(cases):
+    for form, sizes in SIZES.items():
+        counted = second.FORMS["%s-%d" % form]
+        assert sizes == (second.encoded_size(counted), second.block_size(counted))
+    cases.group("Encodings, blocks, bodies and tags known from calculation by hand")
+    poly, long = ("poly", 4093), ("long", 4093)
+    cases.ask(poly, "encode", [1, 0, 0, 0, 0, 0, 0, 4092], expected="001000000000000000000FFC")
+    cases.ask(poly, "decode", "001000000000000000000FFC", expected=[1, 0, 0, 0, 0, 0, 0, 4092])
+    cases.ask(poly, "decode", "001000000000000000000FFD", expected="refused 1 0 7")
+    cases.ask(poly, "encode", [1, 2, 3, 4, 5, 6, 7, 8], expected="001002003004005006007008")
+    cases.ask(long, "encode", [1, 2, 3, 4, 5, 6, 7, 8], expected="001005003007002006004008")
+    cases.ask(long, "decode", "001002003004005006007008", expected=[1, 5, 3, 7, 2, 6, 4, 8])
+    cases.ask(("short", 4093), "encode", [1, 2], expected="001002")
+    cases.ask(("short", 1021), "encode", [1, 2], expected="004020")
+    cases.ask(("short", 1021), "decode", "004020", expected=[1, 2])
+    cases.ask(("short", 1021), "decode", "000001", expected="refused 4 0 0")
+    for family in ("long", "poly"):
+        for q, first in ((4093, 1024), (1021, 256)):
+            size = SIZES[family, q][1]
+            expected = [first, 0, 0, 0, 0, 0, 0, 0]
+            cases.ask((family, q), "block", b"\x80" + bytes(size - 1), expected=expected)
+            cases.ask((family, q), "block", "80", expected=expected)
+    cases.ask(poly, "body", "0", "5", "-", expected="0005")
+    cases.ask(poly, "body", "1", "0", "41", expected="004041")
+    cases.ask(poly, "body", "1023", "63", "-", expected="FFFF")
+    # The key is X, or g in the short form, whose square is 2. The block 0005 is
+    # 320 X at 4093 and 20 X at 1021; the length block is 128 X and 8 X.
+    for family in ("long", "poly"):
+        cases.ask((family, 4093), "tag", "000001000000000000000000", bytes(12), "0005", expected="000000080140000000000000")
+        cases.ask((family, 1021), "tag", "00001000000000000000", bytes(10), "0005", expected="00000020140000000000")
+    cases.ask(("short", 4093), "tag", "000001", "000000", "0005", expected="100280")
+    cases.ask(("short", 1021), "tag", "000010", "000000", "0005", expected="040280")
+    cases.ask(("short", 4093), "tag", "000001", "001FFC", "0005", expected="10127F")
+    for q, most in ((4093, 40), (1021, 49)):
+        for family in ("long", "poly"):
+            cases.ask((family, q), "blocks", "2", expected="1")
+            cases.ask((family, q), "blocks", "440", expected=str(most))
+        cases.ask(("short", q), "blocks", "2", expected="1")
+        cases.ask(("short", q), "blocks", "440", expected="220")
+
+
+def encodings(cases, draw):
+    for form in SIZES:
+        family, q = form
+        count = COUNTS[family]
+        cases.group("Values encoded and decoded in %s-%d" % form)
+        values = [[0] * count, [q - 1] * count, [1] * count, list(range(1, count + 1))]
+        values += [draw.value(family, q) for _ in range(4)]
+        for value in values:
+            encoding = encoded(form, turned(family, value))
+            cases.ask(form, "encode", value, expected=encoding)
+            cases.ask(form, "decode", encoding, expected=value)
+        lower = notation(encoding).lower()
+        cases.ask(form, "decode", lower, expected=value)
+        cases.ask(form, "decode", lower[:3].upper() + lower[3:], expected=value)
+        cases.ask(form, "encode", ",".join("0" * 20 + str(number) for number in value), expected=encoding)
+        cases.group("A single coefficient at each place encoded in %s-%d" % form)
+        for place in range(count):
+            for number in (1, q - 1):
+                value = single(family, place, number)
+                cases.ask(form, "encode", value, expected=encoded(form, turned(family, value)))
+
+
+def encode_refused(cases):
+    cases.group("Encoding refuses another count of numbers, and a number out of range")
+    for form in SIZES:
+        family, q = form
+        count = COUNTS[family]
+        for wrong in sorted({1, count - 1, count + 1, 300} - {count}):
+            cases.ask(form, "encode", [1] * wrong, expected=WRONG_COUNT)
+        for place in range(count):
+            cases.ask(form, "encode", single(family, place, q), expected=out_of_range(power_of(family, place)))
+        cases.ask(form, "encode", [65536] * count, expected=out_of_range(0))
+        cases.ask(form, "encode", single(family, count - 1, THIRTY_DIGITS), expected=out_of_range(count - 1))
+        cases.ask(form, "encode", [q] * (count + 1), expected=WRONG_COUNT)
+
+
+def decode_edges(cases, draw):
+    for form in SIZES:
+        family, q = form
+        count = COUNTS[family]
+        ones = 2 ** WIDTHS[q] - 1
+        cases.group("Decoding the edges of the range at each power of X in %s-%d" % form)
+        for power in range(count):
+            powers = turned(family, draw.value(family, q))
+            largest = with_number(powers, power, q - 1)
+            cases.ask(form, "decode", encoded(form, largest), expected=turned(family, largest))
+            for number in (q, q + 1, ones):
+                cases.ask(form, "decode", encoded(form, with_number(powers, power, number)), expected=out_of_range(power))
+        cases.group("Decoding several coefficients out of range in %s-%d: the smallest power is told" % form)
+        for power in range(count):
+            # From this power on all are out of range.
+            cases.ask(form, "decode", encoded(form, [q - 1] * power + [q] * (count - power)), expected=out_of_range(power))
+        for power in range(count - 1):
+            both = with_number(with_number([0] * count, power, ones), count - 1, q)
+            cases.ask(form, "decode", encoded(form, both), expected=out_of_range(power))
+        cases.ask(form, "decode", b"\xff" * SIZES[form][0], expected=out_of_range(0))
+
+
+def decode_sizes(cases, draw):
+    for form in SIZES:
+        family, q = form
+        size = SIZES[form][0]
+        cases.group("Decoding another count of bytes in %s-%d" % form)
+        for wrong in sorted({0, 1, 2, size - 1, size + 1, 2 * size, 440, 1000}):
+            cases.ask(form, "decode", bytes(wrong), expected=WRONG_COUNT)
+        value = draw.value(family, q)
+        encoding = encoded(form, turned(family, value))
+        cases.ask(form, "decode", encoding, expected=value)
+        cases.ask(form, "decode", encoding[:-1], expected=WRONG_COUNT)
+        cases.ask(form, "decode", encoding[1:], expected=WRONG_COUNT)
+        cases.ask(form, "decode", encoding + b"\x00", expected=WRONG_COUNT)
+        cases.ask(form, "decode", b"\x00" + encoding, expected=WRONG_COUNT)
+    cases.group("Decoding the count of bytes that another form has")
+    cases.ask(("poly", 4093), "decode", bytes(10), expected=WRONG_COUNT)
+    cases.ask(("poly", 1021), "decode", bytes(12), expected=WRONG_COUNT)
+    cases.ask(("long", 4093), "decode", bytes(3), expected=WRONG_COUNT)
+    cases.ask(("short", 1021), "decode", bytes(10), expected=WRONG_COUNT)
+
+
+def decode_padding(cases, draw):
+    short = ("short", 1021)
+    cases.group("Padding bits in short-1021: each alone, then several")
+    for powers in ([0, 0], [1020, 1020], draw.value(*short)):
+        cases.ask(short, "decode", encoded(short, powers), expected=powers)
+        for padding in ("1000", "0100", "0010", "0001", "1001", "1111"):
+            cases.ask(short, "decode", encoded(short, powers, padding), expected=WRONG_PADDING)
+    cases.group("Range is tested before padding, the count of bytes before both")
+    for padding in ("0001", "1000", "1111"):
+        cases.ask(short, "decode", encoded(short, [1021, 0], padding), expected=out_of_range(0))
+        cases.ask(short, "decode", encoded(short, [0, 1021], padding), expected=out_of_range(1))
+        cases.ask(short, "decode", encoded(short, [1020, 1023], padding), expected=out_of_range(1))
+    for form in SIZES:
+        cases.ask(form, "decode", b"\xff" * (SIZES[form][0] - 1), expected=WRONG_COUNT)
+        cases.ask(form, "decode", b"\xff" * (SIZES[form][0] + 1), expected=WRONG_COUNT)
+    cases.group("Where there is no padding the last bit is one of a coefficient")
+    for form in SIZES:
+        family, q = form
+        last = bytes(SIZES[form][0] - 1) + b"\x01"
+        expected = WRONG_PADDING if form == short else single(family, COUNTS[family] - 1, 1)
+        cases.ask(form, "decode", last, expected=expected)
+
+
+def block_values(cases, draw):
+    for form in SIZES:
+        family, q = form
+        count, group = COUNTS[family], WIDTHS[q] - 1
+        size = SIZES[form][1]
+        cases.group("Blocks in %s-%d" % form)
+        for length in sorted({0, 1, 2, size - 1, size}):
+            contents = [bytes(length)]
+            if length:
+                contents += [b"\x80" + bytes(length - 1), bytes(length - 1) + b"\x01", b"\xff" * length]
+                contents += [draw.bytes(length), draw.bytes(length)]
+            for block in contents:
+                cases.ask(form, "block", block, expected=cut_block(form, block))
+        for length in (size + 1, 2 * size, 440):
+            for block in (bytes(length), b"\xff" * length, draw.bytes(length)):
+                cases.ask(form, "block", block, expected=WRONG_COUNT)
+        cases.group("A shorter block is as if filled up with 00 in %s-%d" % form)
+        for length in sorted({1, size - 1}):
+            block = draw.bytes(length)
+            short_answer = cases.ask(form, "block", block)
+            cases.ask(form, "block", block + bytes(size - length), expected=short_answer)
+            cases.ask(form, "block", notation(block).lower(), expected=short_answer)
+        cases.group("The first and the last bit of each coefficient of a block in %s-%d" % form)
+        for power in range(count):
+            for bit in (0, group - 1):
+                place = power * group + bit
+                if place < 8 * size:
+                    block = from_binary("0" * place + "1" + "0" * (8 * size - 1 - place))
+                    powers = with_number([0] * count, power, 2 ** (group - 1 - bit))
+                    cases.ask(form, "block", block, expected=powers)
+
+
+def bodies(cases, draw):
+    poly = ("poly", 4093)
+    cases.group("The number and the route of a body at their edges")
+    for number in (0, 1, 2, 3, 4, 255, 256, 511, 512, 1022, 1023):
+        cases.ask(poly, "body", number, 0, "-", expected="%04X" % (64 * number))
+    for route in (1, 2, 31, 32, 62, 63):
+        cases.ask(poly, "body", 0, route, "-", expected="%04X" % route)
+        cases.ask(poly, "body", 1023, route, "-", expected="%04X" % (65472 + route))
+    large = [2**digits + 5 for digits in (16, 32, 64, 128)] + [THIRTY_DIGITS]
+    for number in [1024, 1025, 2047, 2048, 65535, 65536] + large:
+        cases.ask(poly, "body", number, 0, "-", expected=NUMBER_TOO_LARGE)
+    for route in [64, 65, 127, 128, 255, 256, 65535, 65536] + large:
+        cases.ask(poly, "body", 0, route, "-", expected=ROUTE_TOO_LARGE)
+    cases.ask(poly, "body", "0000000000000000000000000000001", "00000000000000000000002", "-", expected="0042")
+    cases.ask(poly, "body", "00001023", "00063", "-", expected="FFFF")
+    cases.ask(poly, "body", "00001024", "00063", "-", expected=NUMBER_TOO_LARGE)
+    cases.ask(poly, "body", "0000", "00064", "-", expected=ROUTE_TOO_LARGE)
+    for form in SIZES:
+        cases.group("Bodies in %s-%d" % form)
+        number, route = draw.below(1024), draw.below(64)
+        head = bytes([number // 4, number % 4 * 64 + route])
+        for length in (0, 1, 2, 437, 438):
+            text = draw.bytes(length)
+            cases.ask(form, "body", number, route, text, expected=head + text)
+        for length in (439, 440, 1000):
+            cases.ask(form, "body", number, route, draw.bytes(length), expected=WRONG_LENGTH)
+        cases.ask(form, "body", 0, 0, "00", expected="000000")
+        cases.ask(form, "body", 1023, 63, "ff", expected="FFFFFF")
+        cases.ask(form, "body", 1023, 63, "aBcDeF", expected="FFFFABCDEF")
+        cases.ask(form, "body", 1024, 63, "00", expected=NUMBER_TOO_LARGE)
+        cases.ask(form, "body", 1023, 64, "00", expected=ROUTE_TOO_LARGE)
+    cases.group("The number is tested before the route, the route before the text")
+    too_long = bytes(439)
+    for form in SIZES:
+        cases.ask(form, "body", 1024, 64, too_long, expected=NUMBER_TOO_LARGE)
+        cases.ask(form, "body", 1024, 64, "-", expected=NUMBER_TOO_LARGE)
+        cases.ask(form, "body", 1024, 0, too_long, expected=NUMBER_TOO_LARGE)
+        cases.ask(form, "body", 0, 64, too_long, expected=ROUTE_TOO_LARGE)
+
+
+def tags(cases, draw):
+    for form in SIZES:
+        family, q = form
+        count, (encoded_size, size) = COUNTS[family], SIZES[form]
+
+        def secret():
+            return encoded(form, draw.value(family, q))
+
+        zero, one = bytes(encoded_size), encoded(form, [1] + [0] * (count - 1))
+        minus_one, largest = encoded(form, [q - 1] + [0] * (count - 1)), encoded(form, [q - 1] * count)
+
+        cases.group("Tags of bodies of each length at an edge in %s-%d" % form)
+        for length in sorted({2, 3, size, size + 1, 2 * size - 1, 2 * size, 2 * size + 1, 3 * size, 439, 440}):
+            cases.ask(form, "tag", secret(), secret(), draw.bytes(length))
+        for length in (0, 1, 441, 1000):
+            cases.ask(form, "tag", secret(), secret(), draw.bytes(length), expected=WRONG_LENGTH)
+        for length in sorted({2, size, 440}):
+            for byte in (b"\x00", b"\xff"):
+                cases.ask(form, "tag", largest, largest, byte * length)
+
+        cases.group("The zero key, the key one and the key minus one in %s-%d" % form)
+        pad = secret()
+        for body in (draw.bytes(2), draw.bytes(2 * size + 1)):
+            cases.ask(form, "tag", zero, pad, body, expected=pad)
+            cases.ask(form, "tag", zero, zero, body, expected=zero)
+            blocks = [body[start : start + size] for start in range(0, len(body), size)]
+            columns = list(zip(*(cut_block(form, block) for block in blocks + [bytes([0, len(body)])])))
+            cases.ask(form, "tag", one, zero, body, expected=encoded(form, [sum(column) % q for column in columns]))
+            turns = [(-1) ** (len(blocks) + 1 - place) for place in range(len(blocks) + 1)]
+            signed = [sum(sign * number for sign, number in zip(turns, column)) % q for column in columns]
+            cases.ask(form, "tag", minus_one, zero, body, expected=encoded(form, signed))
+
+        cases.group("Bodies that differ little have different tags in %s-%d" % form)
+        key, pad = secret(), secret()
+        seen = []
+        for length in sorted({2, size, size + 1, 2 * size}):
+            body = draw.bytes(length)
+            tag = cases.ask(form, "tag", key, pad, body)
+            # A final 00 more changes no block but that of the length, where the
+            # last block has room for it.
+            longer = cases.ask(form, "tag", key, pad, body + b"\x00")
+            changed = cases.ask(form, "tag", key, pad, with_byte(body, length - 1, body[-1] ^ 1))
+            seen += [tag, longer, changed]
+        first, other, last = draw.bytes(size), draw.bytes(size), draw.bytes(1)
+        for body in (first + other, other + first, first + other + last, other + first + last, first + last + other):
+            seen.append(cases.ask(form, "tag", key, pad, body))
+        assert len(set(seen)) == len(seen)
+
+        cases.group("Another key or another pad in %s-%d" % form)
+        body = draw.bytes(size + 1)
+        seen = [cases.ask(form, "tag", key, pad, body), cases.ask(form, "tag", pad, key, body)]
+        bare = cases.ask(form, "tag", key, zero, body)
+        seen += [bare, cases.ask(form, "tag", key, largest, body), cases.ask(form, "tag", one, pad, body)]
+        assert len(set(seen)) == len(seen)
+        cases.ask(form, "tag", notation(key).lower(), notation(pad).lower(), notation(body).lower(), expected=seen[0])
+        bare_value = cases.ask(form, "decode", bare)
+        pad_value = cases.ask(form, "decode", pad)
+        total = cases.ask(form, "add", bare_value, pad_value)
+        cases.ask(form, "encode", total, expected=seen[0])
+
+        cases.group("A body and its tag, block by block, in %s-%d" % form)
+        text = draw.bytes(2 * size - 1)
+        body = cases.ask(form, "body", draw.below(1024), draw.below(64), text)
+        content = bytes.fromhex(body)
+        cases.ask(form, "blocks", len(content), expected="3")
+        key_value = cases.ask(form, "decode", key)
+        total = single(family, 0, 0)
+        for block in (content[:size], content[size : 2 * size], content[2 * size :], bytes([0, len(content)])):
+            powers = cases.ask(form, "block", block).split(",")
+            total = cases.ask(form, "add", total, turned(family, powers))
+            total = cases.ask(form, "mul", total, key_value)
+        total = cases.ask(form, "add", total, pad_value)
+        tag = cases.ask(form, "encode", total)
+        cases.ask(form, "tag", key, pad, body, expected=tag)
+
+    cases.group("Long and poly have the same tags")
+    for q in MODULI:
+        for length in (2, 30, 440):
+            key, pad = (encoded(("poly", q), draw.value("poly", q)) for _ in range(2))
+            body = draw.bytes(length)
+            tag = cases.ask(("poly", q), "tag", key, pad, body)
+            cases.ask(("long", q), "tag", key, pad, body, expected=tag)
+
+
+def tags_refused(cases, draw):
+    body = bytes([0, 5])
+    for form in SIZES:
+        family, q = form
+        count, (size, _) = COUNTS[family], SIZES[form]
+        right = encoded(form, draw.value(family, q))
+        cases.group("Keys and pads that are refused in %s-%d" % form)
+        for wrong in sorted({0, 1, size - 1, size + 1, 2 * size}):
+            cases.ask(form, "tag", bytes(wrong), right, body, expected="refused 3 1 0")
+            cases.ask(form, "tag", right, bytes(wrong), body, expected="refused 3 2 0")
+        for power in range(count):
+            over = encoded(form, with_number(draw.value(family, q), power, q))
+            cases.ask(form, "tag", over, right, body, expected=out_of_range(power, KEY))
+            cases.ask(form, "tag", right, over, body, expected=out_of_range(power, PAD))
+        ones = b"\xff" * size
+        cases.ask(form, "tag", ones, right, body, expected=out_of_range(0, KEY))
+        cases.ask(form, "tag", right, ones, body, expected=out_of_range(0, PAD))
+        cases.group("Key, pad and body are tested in this order in %s-%d" % form)
+        over = encoded(form, [0] * (count - 1) + [q])
+        cases.ask(form, "tag", over, ones, "-", expected=out_of_range(count - 1, KEY))
+        cases.ask(form, "tag", ones, over, body, expected=out_of_range(0, KEY))
+        cases.ask(form, "tag", "-", "-", "-", expected="refused 3 1 0")
+        cases.ask(form, "tag", right, "-", "-", expected="refused 3 2 0")
+        cases.ask(form, "tag", right, right, "-", expected=WRONG_LENGTH)
+        cases.ask(form, "tag", over, "-", body, expected=out_of_range(count - 1, KEY))
+        cases.ask(form, "tag", "-", over, body, expected="refused 3 1 0")
+        cases.ask(form, "tag", right, over, bytes(441), expected=out_of_range(count - 1, PAD))
+        cases.ask(form, "tag", right, ones, "00", expected=out_of_range(0, PAD))
+        cases.ask(form, "tag", "00", right, bytes(441), expected="refused 3 1 0")
+        cases.ask(form, "tag", right, right, bytes(441), expected=WRONG_LENGTH)
+        cases.ask(form, "tag", right, right, "00", expected=WRONG_LENGTH)
+    short = ("short", 1021)
+    cases.group("Padding bits of keys and pads in short-1021")
+    right = encoded(short, draw.value(*short))
+    for padding in ("1000", "0100", "0010", "0001", "1111"):
+        wrong = encoded(short, draw.value(*short), padding)
+        cases.ask(short, "tag", wrong, right, body, expected="refused 4 1 0")
+        cases.ask(short, "tag", right, wrong, body, expected="refused 4 2 0")
+        cases.ask(short, "tag", wrong, wrong, "-", expected="refused 4 1 0")
+        cases.ask(short, "tag", right, wrong, "-", expected="refused 4 2 0")
+        cases.ask(short, "tag", encoded(short, [0, 0], padding), right, body, expected="refused 4 1 0")
+    cases.ask(short, "tag", encoded(short, [1021, 0], "0001"), right, body, expected=out_of_range(0, KEY))
+    cases.ask(short, "tag", right, encoded(short, [0, 1021], "0001"), body, expected=out_of_range(1, PAD))
+
+
+def counts_of_blocks(cases):
+    for form in SIZES:
+        size = SIZES[form][1]
+        cases.group("Counts of blocks in %s-%d" % form)
+        lengths = {2, 3, 4, size - 1, size, size + 1, 2 * size - 1, 2 * size, 2 * size + 1}
+        lengths |= {255, 256, 257, 439, 440, 440 // size * size, 440 // size * size - 1}
+        for length in sorted(lengths - {1}):
+            expected = len(range(0, length, size))
+            cases.ask(form, "blocks", length, expected=expected)
+        cases.ask(form, "blocks", "0" * 40 + "440", expected=len(range(0, 440, size)))
+        for length in (0, "00", 1, "001", 441, "0441", 442, 65535, 65536, 65536 + 5, 2**32 + 5, 2**64 + 5, 2**128 + 5, THIRTY_DIGITS):
+            cases.ask(form, "blocks", length, expected=WRONG_LENGTH)
+
+
+def not_bytes(cases):
+    cases.group("Words that are not bytes")
+    words = (
+        "0", "000", "00000", "A", "x", "0x", "0x00", "0X00", "00x", "G0", "0G", "g0", "0g", "/0", "0/", ":0", "0:", "@0", "0@",
+        "`0", "0`", "--", "-0", "-00", "00-", "0-", "+0", "00,00", "00,", ",00", "0,0", "00.", "00:00", "0h", "0xFF", "00h", "\"00\"", "'00'",
+        "_0", "0_0_", "#0", "zz", "OO", "~~", "..", "FF_F",
+    )
+    for word in words:
+        cases.ask(("short", 4093), "decode", word, expected=NOT_BYTES)
+    for form in SIZES:
+        right = bytes(SIZES[form][0])
+        for word in ("", "0", "000", "0G", "g0", "--"):
+            cases.ask(form, "decode", word, expected=NOT_BYTES)
+            cases.ask(form, "block", word, expected=NOT_BYTES)
+            cases.ask(form, "body", 0, 0, word, expected=NOT_BYTES)
+            cases.ask(form, "tag", word, right, "0005", expected=NOT_BYTES)
+            cases.ask(form, "tag", right, word, "0005", expected=NOT_BYTES)
+            cases.ask(form, "tag", right, right, word, expected=NOT_BYTES)
+    cases.group("Upper and lower case are the same bytes")
+    cases.ask(("short", 4093), "decode", "abcdef", expected=[0xABC, 0xDEF])
+    cases.ask(("short", 4093), "decode", "ABCDEF", expected=[0xABC, 0xDEF])
+    cases.ask(("short", 4093), "decode", "aBcDeF", expected=[0xABC, 0xDEF])
+    cases.ask(("poly", 4093), "body", 0, 0, "aAbBcCdDeEfF", expected="0000AABBCCDDEEFF")
+
+
+def not_numbers(cases):
+    cases.group("Words that are not a number")
+    words = (
+        "", "-", "x", "-1", "+1", "1,2", "1,", ",1", "1.0", "1.", "0x10", "1e2", "1_0", "1'0", "A", "1A", "a1", "/", ":", "0/", "0:", "--", "#", "1#", "\"1\"",
+    )
+    for word in words:
+        cases.ask(("poly", 1021), "blocks", word, expected=NOT_A_NUMBER)
+        cases.ask(("short", 4093), "body", word, 0, "-", expected=NOT_A_NUMBER)
+        cases.ask(("long", 4093), "body", 0, word, "-", expected=NOT_A_NUMBER)
+    cases.group("Words that are not a value to be encoded")
+    for form in SIZES:
+        for word in ("", "-", "x", "1,", "0xFF,0", "1;2"):
+            cases.ask(form, "encode", word, expected=NOT_A_VALUE)
+    cases.group("The first argument that is not understood decides")
+    for form in SIZES:
+        cases.ask(form, "body", "x", "x", "x", expected=NOT_A_NUMBER)
+        cases.ask(form, "body", "x", 0, "x", expected=NOT_A_NUMBER)
+        cases.ask(form, "body", 0, "x", "x", expected=NOT_A_NUMBER)
+        cases.ask(form, "body", 0, 0, "x", expected=NOT_BYTES)
+    cases.group("All arguments are understood before any is tested")
+    for form in SIZES:
+        right = bytes(SIZES[form][0])
+        cases.ask(form, "body", 1024, 64, "x", expected=NOT_BYTES)
+        cases.ask(form, "body", 1024, "x", "-", expected=NOT_A_NUMBER)
+        cases.ask(form, "body", 0, 64, "0", expected=NOT_BYTES)
+        cases.ask(form, "tag", "-", "-", "0", expected=NOT_BYTES)
+        cases.ask(form, "tag", "-", "0", "-", expected=NOT_BYTES)
+        cases.ask(form, "tag", b"\xff" * len(right), right, "x", expected=NOT_BYTES)
+        cases.ask(form, "tag", right, b"\xff" * len(right), "x", expected=NOT_BYTES)
+
+
+def coded_words(cases):
+    taken = {"encode": 1, "decode": 1, "block": 1, "body": 3, "tag": 3, "blocks": 1}
+    cases.group("Encodings, blocks, bodies and tags are not operations of the prime forms")
+    rights = {"encode": ["1"], "decode": ["0000"], "block": ["00"], "body": ["0", "0", "-"], "tag": ["0000", "0000", "0005"], "blocks": ["2"]}
+    for q in MODULI:
+        for operation in taken:
+            cases.ask(("prime", q), operation, *rights[operation], expected=NO_OPERATION)
+            cases.ask(("prime", q), operation, expected=NO_OPERATION)
+            cases.ask(("prime", q), operation, "x", "x", expected=NO_OPERATION)
+    cases.group("Words that are near an operation's and are none")
+    for word in ("Encode", "ENCODE", "encodes", "encod", "Decode", "decoded", "Block", "BLOCKS", "bloc", "Blocks", "block-", "Body", "bodies", "bod", "Tag", "TAG", "tags", "ta", "tag-"):
+        cases.text("poly-4093 %s 2" % word, NO_OPERATION)
+    cases.group("Too many and too few arguments")
+    for form in SIZES:
+        for operation, right in taken.items():
+            for number in sorted({0, right - 1, right + 1} - {right}):
+                cases.ask(form, operation, *["00"] * number, expected=WRONG_NUMBER)
+    cases.group("The number of arguments is tested before them")
+    cases.text("short-4093 decode x x", WRONG_NUMBER)
+    cases.text("short-4093 decode 00 10 02", WRONG_NUMBER)
+    cases.text("short-4093 body x x", WRONG_NUMBER)
+    cases.text("short-4093 tag x", WRONG_NUMBER)
+    cases.text("short-4093 blocks 1 x", WRONG_NUMBER)
+    cases.group("Two spaces, or one at the end, make an empty word")
+    cases.text("short-4093 decode 001002 ", WRONG_NUMBER)
+    cases.text("short-4093 decode  001002", WRONG_NUMBER)
+    cases.text("short-4093 body 0 0 ", NOT_BYTES)
+    cases.text("short-4093 body 0  -", NOT_A_NUMBER)
+    cases.text("short-4093 body  0 -", NOT_A_NUMBER)
+    cases.text("short-4093 tag 000000 000000 ", NOT_BYTES)
+    cases.text("short-4093 tag  000000 0005", NOT_BYTES)
+    cases.group("Bytes that are not text, and carriage returns")
+    cases.raw(b"short-4093 decode 0010\t02", NOT_TEXT)
+    cases.raw(b"short-4093 decode 0010\x00", NOT_TEXT)
+    cases.raw(b"short-4093 body 0 0 \xff\xff", NOT_TEXT)
+    cases.raw(b"short-4093 decode 001002\r", "1,2")
+    cases.raw(b"short-4093 body 0 0 -\r", "0000")
+    cases.raw(b"short-4093 decode 001002\r\r", NOT_TEXT)
+
+
+def long_coded_lines(cases):
+    cases.group("Arguments that make lines of 4095, 4096 and 4097 bytes")
+    zeros = b"0" * 24
+    for start, answer in (
+        (b"short-4093 decode ", WRONG_COUNT), (b"poly-1021 block ", WRONG_COUNT), (b"long-4093 body 0 63 ", WRONG_LENGTH),
+        (b"long-4093 tag " + zeros + b" " + zeros + b" ", WRONG_LENGTH),
+    ):
+        assert len(start) % 2 == 0
+        cases.raw(start + b"F" * (4096 - len(start)), answer)
+        cases.raw(start + b"F" * (4097 - len(start)), TOO_LONG)
+    cases.raw(start + b"F" * (4095 - len(start)), NOT_BYTES)
+    cases.raw(padded(b"short-4093 blocks ", b"440", 4096), "220")
+    cases.raw(padded(b"short-4093 blocks ", b"440", 4097), TOO_LONG)
+    cases.raw(padded(b"short-4093 blocks ", b"441", 4096), WRONG_LENGTH)
+    cases.raw(b"poly-1021 blocks ".ljust(4096, b"9"), WRONG_LENGTH)
+    cases.raw(padded(b"poly-1021 body ", b"1023 63 -", 4096), "FFFF")
+    cases.raw(padded(b"poly-1021 body 1023 ", b"64 -", 4096), ROUTE_TOO_LARGE)
+    cases.raw(padded(b"short-4093 encode ", b"1,2", 4096), "001002")
+
+
 def last_line(cases):
     cases.group("The last line lacks its newline")
     cases.raw(b"short-4093 mul 3,5 7,11", "131,68", ending=b"")
@@ -673,6 +1205,21 @@ def make():
     carriage_returns(cases)
     passed_over(cases)
     long_lines(cases)
+    known_encodings(cases)
+    encodings(cases, draw)
+    encode_refused(cases)
+    decode_edges(cases, draw)
+    decode_sizes(cases, draw)
+    decode_padding(cases, draw)
+    block_values(cases, draw)
+    bodies(cases, draw)
+    tags(cases, draw)
+    tags_refused(cases, draw)
+    counts_of_blocks(cases)
+    not_bytes(cases)
+    not_numbers(cases)
+    coded_words(cases)
+    long_coded_lines(cases)
     last_line(cases)
     questions = b"".join(cases.lines)
     assert list(second.answer_lines(io.BytesIO(questions))) == cases.answers

@@ -7,7 +7,10 @@ standard output. It shares nothing with the engine and works by another method:
 * every value, also one of a tower of quadratic extensions, is a polynomial in
   one variable X over the prime field, modulo X^c - 2, where c is 1, 2 or 8;
 * a product is the schoolbook product over Python's integers, then a remainder;
-* an inverse is a power, a^(q^c - 2), by square-and-multiply.
+* an inverse is a power, a^(q^c - 2), by square-and-multiply;
+* an encoding or a block is one large number, whose digits to the base of a
+  power of two are the coefficients;
+* a tag is a sum: each block times its own power of the key, and the pad.
 
 A tower's list of coefficients is read into powers of X by reversing the binary
 digits of each place.
@@ -23,12 +26,29 @@ LONGEST_LINE = 4096
 OUT_OF_RANGE = 1
 ZERO_HAS_NO_INVERSE = 2
 WRONG_COUNT = 3
+PADDING_NOT_ZERO = 4
+WRONG_LENGTH = 5
+NUMBER_OUT_OF_RANGE = 8
+ROUTE_OUT_OF_RANGE = 17
+
+# Numbers of the parts of the input that a refusal names.
+PART_CALL = 0
+PART_KEY = 1
+PART_PAD = 2
+
+# A body is a number and a route in two bytes, then the text.
+LARGEST_NUMBER = 1023
+LARGEST_ROUTE = 63
+HEAD_SIZE = 2
+LONGEST_TEXT = 438
+SHORTEST_BODY = HEAD_SIZE
+LONGEST_BODY = HEAD_SIZE + LONGEST_TEXT
 
 
 class Refused(Exception):
     """A well-formed line whose values the arithmetic does not admit."""
 
-    def __init__(self, number, part=0, place=0):
+    def __init__(self, number, part=PART_CALL, place=0):
         super().__init__(number, part, place)
         self.number, self.part, self.place = number, part, place
 
@@ -149,9 +169,115 @@ def check_constants():
         assert multiply(form, root, root) == constant(form, -1)
 
 
+# --- Encodings ---------------------------------------------------------------
+# An encoding is one number, most significant byte first. Its digits to the base
+# 2^w, where w is the width of the modulus, are the coefficients from power 0 up,
+# most significant first; the padding bits stand below them.
+
+
+def width(form):
+    """The count of binary digits of the modulus."""
+    return form.q.bit_length()
+
+
+def encoded_size(form):
+    """The count of bytes of an encoding."""
+    return -(-form.c * width(form) // 8)
+
+
+def padding_bits(form):
+    return 8 * encoded_size(form) - form.c * width(form)
+
+
+def digits_to_base(number, base, count):
+    """This many digits of the number, the most significant first."""
+    digits = []
+    for _ in range(count):
+        number, digit = divmod(number, base)
+        digits.append(digit)
+    assert number == 0
+    return digits[::-1]
+
+
+def encode(form, powers):
+    number = sum(each * 2 ** (width(form) * (form.c - 1 - power)) for power, each in enumerate(powers))
+    encoding = (number << padding_bits(form)).to_bytes(encoded_size(form), "big")
+    assert decode(form, encoding, PART_CALL) == powers
+    return encoding
+
+
+def decode(form, encoding, part):
+    if len(encoding) != encoded_size(form):
+        raise Refused(WRONG_COUNT, part)
+    number, padding = divmod(int.from_bytes(encoding, "big"), 2 ** padding_bits(form))
+    powers = digits_to_base(number, 2 ** width(form), form.c)
+    for power, each in enumerate(powers):
+        if each >= form.q:
+            raise Refused(OUT_OF_RANGE, part, power)
+    if padding:
+        raise Refused(PADDING_NOT_ZERO, part)
+    return powers
+
+
+# --- Blocks, bodies and tags -------------------------------------------------
+# A block is one number as well. Its digits to the base 2^(w - 1) are the
+# coefficients, so that each is below the modulus.
+
+
+def block_size(form):
+    """The largest count of bytes of a block."""
+    return form.c * (width(form) - 1) // 8
+
+
+def value_of_block(form, block):
+    """The value of a block of at most its largest size, by power of X."""
+    missing = form.c * (width(form) - 1) - 8 * len(block)
+    number = int.from_bytes(block, "big") << missing
+    return digits_to_base(number, 2 ** (width(form) - 1), form.c)
+
+
+def count_blocks(form, length):
+    return -(-length // block_size(form))
+
+
+def make_body(number, route, text):
+    return (number * (LARGEST_ROUTE + 1) + route).to_bytes(HEAD_SIZE, "big") + text
+
+
+def values_of_body(form, body):
+    """The values of the blocks of a body and, last, of its length block."""
+    size = block_size(form)
+    blocks = [body[start : start + size] for start in range(0, len(body), size)]
+    assert len(blocks) == count_blocks(form, len(body))
+    blocks.append(len(body).to_bytes(2, "big"))
+    return [value_of_block(form, block) for block in blocks]
+
+
+def nested_sum(form, values, key):
+    """The same sum as in the tag, by Horner's rule; only to check that one."""
+    result = constant(form, 0)
+    for value in values:
+        result = multiply(form, add(form, result, value), key)
+    return result
+
+
+def tag(form, key, pad, body):
+    """The pad and each value times its power of the key; the last power is 1."""
+    values = values_of_body(form, body)
+    products = [
+        multiply(form, value, raise_to(form, key, len(values) - place))
+        for place, value in enumerate(values)
+    ]
+    result = [sum(column) % form.q for column in zip(pad, *products)]
+    assert result == add(form, nested_sum(form, values, key), pad)
+    return result
+
+
 # --- Notation ----------------------------------------------------------------
 
 NUMBERS = re.compile(r"[0-9]+(?:,[0-9]+)*")
+NUMBER = re.compile(r"[0-9]+")
+BYTES = re.compile(r"-|(?:[0-9A-Fa-f][0-9A-Fa-f])+")
 
 
 def understand_numbers(word):
@@ -166,12 +292,67 @@ def build_value(form, numbers):
     powers = by_power(form, numbers)
     for power, number in enumerate(powers):
         if number >= form.q:
-            raise Refused(OUT_OF_RANGE, 0, power)
+            raise Refused(OUT_OF_RANGE, PART_CALL, power)
     return powers
 
 
+def understand_number(word):
+    if not NUMBER.fullmatch(word):
+        raise NotUnderstood("not a number")
+    return int(word)
+
+
+def understand_bytes(word):
+    if not BYTES.fullmatch(word):
+        raise NotUnderstood("not bytes")
+    return b"" if word == "-" else bytes.fromhex(word)
+
+
+def build_block(form, block):
+    if len(block) > block_size(form):
+        raise Refused(WRONG_COUNT)
+    return block
+
+
+def build_number_of_body(form, number):
+    if number > LARGEST_NUMBER:
+        raise Refused(NUMBER_OUT_OF_RANGE)
+    return number
+
+
+def build_route(form, route):
+    if route > LARGEST_ROUTE:
+        raise Refused(ROUTE_OUT_OF_RANGE)
+    return route
+
+
+def build_text(form, text):
+    if len(text) > LONGEST_TEXT:
+        raise Refused(WRONG_LENGTH)
+    return text
+
+
+def build_length(form, length):
+    if not SHORTEST_BODY <= length <= LONGEST_BODY:
+        raise Refused(WRONG_LENGTH)
+    return length
+
+
+def build_body(form, body):
+    build_length(form, len(body))
+    return body
+
+
+def write_bytes(content):
+    return content.hex().upper() or "-"
+
+
+def write_numbers(numbers):
+    return ",".join(str(number) for number in numbers)
+
+
 def write_value(form, powers):
-    return ",".join(str(number) for number in by_place(form, powers))
+    return write_numbers(by_place(form, powers))
 
 
 def write_yes_or_no(truth):
@@ -190,12 +371,22 @@ def write_converted(form, powers):
 # Refused.
 ArgumentKind = namedtuple("ArgumentKind", "understand build")
 VALUE = ArgumentKind(understand_numbers, build_value)
+ENCODING = ArgumentKind(understand_bytes, lambda form, content: decode(form, content, PART_CALL))
+KEY = ArgumentKind(understand_bytes, lambda form, content: decode(form, content, PART_KEY))
+PAD = ArgumentKind(understand_bytes, lambda form, content: decode(form, content, PART_PAD))
+BLOCK = ArgumentKind(understand_bytes, build_block)
+NUMBER_OF_BODY = ArgumentKind(understand_number, build_number_of_body)
+ROUTE = ArgumentKind(understand_number, build_route)
+TEXT = ArgumentKind(understand_bytes, build_text)
+BODY = ArgumentKind(understand_bytes, build_body)
+LENGTH = ArgumentKind(understand_number, build_length)
 
 # arguments: the kinds of the arguments; answer: from the form and the built
 # arguments to the text of the answer; families: the forms that have it.
 Operation = namedtuple("Operation", "arguments answer families")
 
 ALL_FAMILIES = frozenset(family for family, _, _ in FAMILIES)
+CODED_FAMILIES = ALL_FAMILIES - {"prime"}
 
 
 def value_operation(calculate, *arguments):
@@ -203,6 +394,11 @@ def value_operation(calculate, *arguments):
     return Operation(
         arguments, lambda form, *built: write_value(form, calculate(form, *built)), ALL_FAMILIES
     )
+
+
+def coded_operation(answer, *arguments):
+    """An operation on encodings, blocks or bodies; the prime forms lack it."""
+    return Operation(arguments, answer, CODED_FAMILIES)
 
 
 OPERATIONS = {
@@ -218,6 +414,17 @@ OPERATIONS = {
         (VALUE, VALUE), lambda form, a, b: write_yes_or_no(a == b), ALL_FAMILIES
     ),
     "convert": Operation((VALUE,), write_converted, frozenset(CONVERTED_FAMILY)),
+    "encode": coded_operation(lambda form, a: write_bytes(encode(form, a)), VALUE),
+    "decode": coded_operation(write_value, ENCODING),
+    # By power of X, also where the form's own order is another.
+    "block": coded_operation(lambda form, block: write_numbers(value_of_block(form, block)), BLOCK),
+    "body": coded_operation(
+        lambda form, *built: write_bytes(make_body(*built)), NUMBER_OF_BODY, ROUTE, TEXT
+    ),
+    "tag": coded_operation(
+        lambda form, *built: write_bytes(encode(form, tag(form, *built))), KEY, PAD, BODY
+    ),
+    "blocks": coded_operation(lambda form, length: str(count_blocks(form, length)), LENGTH),
 }
 
 

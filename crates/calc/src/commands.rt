@@ -1,43 +1,13 @@
-//! Commands: what a line asks for, and why one cannot be understood.
+//! Commands: what a line asks for.
+use super::coded;
 use super::forms;
 use super::forms::Form;
 use super::lines::LONGEST_LINE;
+use super::problems::Problem;
+use super::problems::ProblemDisplay;
+use super::problems::ProblemFromAlloc;
 use std::alloc::AllocError;
 use std::alloc::Global;
-use std::fmt;
-
-// Why a line is not understood.
-#[derive(Clone, Copy)]
-pub(crate) enum Problem {
-    LineTooLong,
-    NotText,
-    NoSuchForm,
-    NoSuchOperation,
-    WrongNumberOfArguments,
-    NotAValue,
-    OutOfMemory,
-}
-
-impl fmt::Display for Problem as ProblemDisplay {
-    fn fmt<W: fmt::Write>(&self, f: &mut fmt::Formatter<W>) -> fmt::Result {
-        let text = match *self {
-            Problem::LineTooLong => "line too long",
-            Problem::NotText => "not text",
-            Problem::NoSuchForm => "no such form",
-            Problem::NoSuchOperation => "no such operation",
-            Problem::WrongNumberOfArguments => "wrong number of arguments",
-            Problem::NotAValue => "not a value",
-            Problem::OutOfMemory => "out of memory",
-        };
-        write!(f, "? {text}")
-    }
-}
-
-impl From<AllocError> for Problem as ProblemFromAlloc {
-    fn from(_e: AllocError) -> Problem {
-        Problem::OutOfMemory
-    }
-}
 
 // What is done with the arguments.
 #[derive(Clone, Copy)]
@@ -52,6 +22,12 @@ pub(crate) enum Verb {
     SqrtMinusOne,
     Same,
     Convert,
+    Encode,
+    Decode,
+    Block,
+    Body,
+    Tag,
+    Blocks,
 }
 
 impl Verb {
@@ -67,6 +43,12 @@ impl Verb {
             "sqrt-minus-one" => Some(Verb::SqrtMinusOne),
             "same" => Some(Verb::Same),
             "convert" => Some(Verb::Convert),
+            "encode" => Some(Verb::Encode),
+            "decode" => Some(Verb::Decode),
+            "block" => Some(Verb::Block),
+            "body" => Some(Verb::Body),
+            "tag" => Some(Verb::Tag),
+            "blocks" => Some(Verb::Blocks),
             _ => None,
         }
     }
@@ -75,16 +57,19 @@ impl Verb {
         match self {
             Verb::NonResidue | Verb::SqrtMinusOne => 0,
             Verb::Add | Verb::Mul | Verb::Same => 2,
+            Verb::Body | Verb::Tag => 3,
             _ => 1,
         }
     }
-}
 
-// The numbers of each argument, in the order of the form.
-#[derive(Drop)]
-pub(crate) struct Arguments {
-    pub(crate) first: Vec<u16>,
-    pub(crate) second: Vec<u16>,
+    // Whether it is about encodings, blocks, bodies or tags.
+    pub(crate) fn is_coded(self) -> bool {
+        match self {
+            Verb::Encode | Verb::Decode | Verb::Block | Verb::Body | Verb::Tag | Verb::Blocks =>
+                true,
+            _ => false,
+        }
+    }
 }
 
 // The answer to a line, of which `over` says that it was longer than what is here; none to an empty line or a comment.
@@ -118,8 +103,15 @@ fn reply(heap: Global, line: &[u8], over: bool) -> Result<String, Problem> {
     if !form.has(verb) {
         return Err(Problem::NoSuchOperation);
     }
-    let arguments = read_arguments(heap, words.collect(heap)?, verb)?;
-    Ok(forms::calculate(heap, form, verb, &arguments)?)
+    let arguments: Vec<&str> = words.collect(heap)?;
+    if arguments.len() != verb.arguments() {
+        return Err(Problem::WrongNumberOfArguments);
+    }
+    if verb.is_coded() {
+        coded::answer(heap, form, verb, &arguments)
+    } else {
+        forms::answer(heap, form, verb, &arguments)
+    }
 }
 
 // The line as text: every byte a printable character of ASCII.
@@ -133,47 +125,4 @@ fn text_of(line: &[u8]) -> Result<&str, Problem> {
         Ok(text) => Ok(text),
         Err(_) => Err(Problem::NotText),
     }
-}
-
-fn read_arguments(heap: Global, words: Vec<&str>, verb: Verb) -> Result<Arguments, Problem> {
-    if words.len() != verb.arguments() {
-        return Err(Problem::WrongNumberOfArguments);
-    }
-    let first = match words.first() {
-        Some(word) => numbers(heap, word)?,
-        None => Vec::new(heap),
-    };
-    let second = match words.get(1) {
-        Some(word) => numbers(heap, word)?,
-        None => Vec::new(heap),
-    };
-    Ok(Arguments { first, second })
-}
-
-// Decimal numbers joined by commas.
-fn numbers(heap: Global, word: &str) -> Result<Vec<u16>, Problem> {
-    let mut list = Vec::new(heap);
-    for part in word.split(',') {
-        let n = number(part.as_bytes()).ok_or(Problem::NotAValue)?;
-        match list.push(n) {
-            Ok(()) => {}
-            Err(_) => return Err(Problem::OutOfMemory),
-        }
-    }
-    Ok(list)
-}
-
-// A decimal number; one that is no 16-bit number is taken for the largest, which is over each modulus too.
-fn number(digits: &[u8]) -> Option<u16> {
-    if digits.is_empty() {
-        return None;
-    }
-    let mut n: u16 = 0;
-    for digit in digits {
-        if *digit < b'0' || *digit > b'9' {
-            return None;
-        }
-        n = n.saturating_mul(10).saturating_add((*digit - b'0') as u16);
-    }
-    Some(n)
 }

@@ -1,11 +1,13 @@
 //! Forms: the fields that a command can name, and the calculation in each.
-use super::commands::Arguments;
 use super::commands::Verb;
+use super::problems::Problem;
+use super::problems::ProblemFromAlloc;
+use super::problems::ProblemFromFault;
+use super::words;
 use calculator::Answer;
 use calculator::Operation;
-use calculator::calculate as calculated;
+use calculator::calculate;
 use fault::Fault;
-use fault::FaultDisplay;
 use field::Coordinates;
 use field::QuadraticCoordinates;
 use field::QuadraticField;
@@ -29,7 +31,7 @@ use std::alloc::AllocError;
 use std::alloc::Global;
 
 #[derive(Clone, Copy)]
-enum Kind {
+pub(crate) enum Kind {
     Prime,
     Short,
     Long,
@@ -44,18 +46,26 @@ impl Kind {
             Kind::Long | Kind::Poly => 8,
         }
     }
+
+    // The kind with as many coefficients that lists them by power.
+    pub(crate) fn by_power(self) -> Kind {
+        match self {
+            Kind::Long => Kind::Poly,
+            _ => self,
+        }
+    }
 }
 
 #[derive(Clone, Copy)]
-enum Size {
+pub(crate) enum Size {
     Q4093,
     Q1021,
 }
 
 #[derive(Clone, Copy)]
 pub(crate) struct Form {
-    kind: Kind,
-    size: Size,
+    pub(crate) kind: Kind,
+    pub(crate) size: Size,
 }
 
 impl Form {
@@ -74,22 +84,24 @@ impl Form {
         Some(Form { kind, size })
     }
 
-    // Whether the form has the operation: only the long and the poly form are converted, to each other.
+    // Whether the form has the operation: only the long and the poly form are converted, to each other, and a prime field
+    // carries no tags.
     pub(crate) fn has(self, verb: Verb) -> bool {
         match (verb, self.kind) {
             (Verb::Convert, Kind::Prime | Kind::Short) => false,
+            (_, Kind::Prime) => !verb.is_coded(),
             _ => true,
         }
     }
 }
 
 // The answer in words and numbers.
-pub(crate) fn calculate(
+pub(crate) fn answer(
     heap: Global,
     form: Form,
     verb: Verb,
-    arguments: &Arguments,
-) -> Result<String, AllocError> {
+    arguments: &[&str],
+) -> Result<String, Problem> {
     match form.size {
         Size::Q4093 => by_modulus::<P4093>(heap, form.kind, verb, arguments),
         Size::Q1021 => by_modulus::<P1021>(heap, form.kind, verb, arguments),
@@ -100,24 +112,24 @@ fn by_modulus<M: Modulus>(
     heap: Global,
     kind: Kind,
     verb: Verb,
-    arguments: &Arguments,
-) -> Result<String, AllocError> {
-    match (kind, verb) {
-        (Kind::Long, Verb::Convert) => match value::<LongTower<M>>(Kind::Long, &arguments.first) {
-            Ok(tower) => shown(heap, Kind::Poly, to_polynomial(tower)),
-            Err(fault) => format!(heap, "{fault}"),
-        },
-        (Kind::Poly, Verb::Convert) => match value::<PolynomialBasis<M>>(
-            Kind::Poly,
-            &arguments.first,
-        ) {
-            Ok(polynomial) => shown(heap, Kind::Long, to_tower(polynomial)),
-            Err(fault) => format!(heap, "{fault}"),
-        },
-        (Kind::Prime, _) => by_field::<Coefficient<M>>(heap, kind, verb, arguments),
-        (Kind::Short, _) => by_field::<ShortTower<M>>(heap, kind, verb, arguments),
-        (Kind::Long, _) => by_field::<LongTower<M>>(heap, kind, verb, arguments),
-        (Kind::Poly, _) => by_field::<PolynomialBasis<M>>(heap, kind, verb, arguments),
+    arguments: &[&str],
+) -> Result<String, Problem> {
+    match (kind, verb, arguments) {
+        (Kind::Long, Verb::Convert, [tower]) => {
+            let tower: LongTower<M> = value(kind, &words::coefficients(heap, tower)?)?;
+            Ok(shown(heap, Kind::Poly, to_polynomial(tower))?)
+        }
+        (Kind::Poly, Verb::Convert, [polynomial]) => {
+            let polynomial: PolynomialBasis<M> = value(
+                kind,
+                &words::coefficients(heap, polynomial)?,
+            )?;
+            Ok(shown(heap, Kind::Long, to_tower(polynomial))?)
+        }
+        (Kind::Prime, _, _) => by_field::<Coefficient<M>>(heap, kind, verb, arguments),
+        (Kind::Short, _, _) => by_field::<ShortTower<M>>(heap, kind, verb, arguments),
+        (Kind::Long, _, _) => by_field::<LongTower<M>>(heap, kind, verb, arguments),
+        (Kind::Poly, _, _) => by_field::<PolynomialBasis<M>>(heap, kind, verb, arguments),
     }
 }
 
@@ -125,40 +137,48 @@ fn by_field<F: Coordinates>(
     heap: Global,
     kind: Kind,
     verb: Verb,
-    arguments: &Arguments,
-) -> Result<String, AllocError> {
-    match evaluate::<F>(kind, verb, arguments) {
-        Ok(Answer::Value(value)) => shown(heap, kind, value),
-        Ok(Answer::Same(true)) => String::from_str(heap, "yes"),
-        Ok(Answer::Same(false)) => String::from_str(heap, "no"),
-        Err(fault) => format!(heap, "{fault}"),
+    arguments: &[&str],
+) -> Result<String, Problem> {
+    match calculate(operation::<F>(heap, kind, verb, arguments)?)? {
+        Answer::Value(value) => Ok(shown(heap, kind, value)?),
+        Answer::Same(true) => Ok(String::from_str(heap, "yes")?),
+        Answer::Same(false) => Ok(String::from_str(heap, "no")?),
     }
 }
 
-fn evaluate<F: Coordinates>(
+// All arguments are understood before the first value is built.
+fn operation<F: Coordinates>(
+    heap: Global,
     kind: Kind,
     verb: Verb,
-    arguments: &Arguments,
-) -> Result<Answer<F>, Fault> {
-    let first = &arguments.first;
-    let second = &arguments.second;
-    let operation = match verb {
-        Verb::Add => Operation::Add(value(kind, first)?, value(kind, second)?),
-        Verb::Neg => Operation::Neg(value(kind, first)?),
-        Verb::Mul => Operation::Mul(value(kind, first)?, value(kind, second)?),
-        Verb::Square => Operation::Square(value(kind, first)?),
-        Verb::Inverse => Operation::Inverse(value(kind, first)?),
-        Verb::NonResidue => Operation::NonResidue,
-        Verb::ByNonResidue => Operation::ByNonResidue(value(kind, first)?),
-        Verb::SqrtMinusOne => Operation::SqrtMinusOne,
-        Verb::Same => Operation::Same(value(kind, first)?, value(kind, second)?),
-        Verb::Convert => return Ok(Answer::Value(value(kind, first)?)),
+    arguments: &[&str],
+) -> Result<Operation<F>, Problem> {
+    let first = match arguments.first() {
+        Some(word) => words::coefficients(heap, word)?,
+        None => Vec::new(heap),
     };
-    calculated(operation)
+    let second = match arguments.get(1) {
+        Some(word) => words::coefficients(heap, word)?,
+        None => Vec::new(heap),
+    };
+    Ok(
+        match verb {
+            Verb::Add => Operation::Add(value(kind, &first)?, value(kind, &second)?),
+            Verb::Neg => Operation::Neg(value(kind, &first)?),
+            Verb::Mul => Operation::Mul(value(kind, &first)?, value(kind, &second)?),
+            Verb::Square => Operation::Square(value(kind, &first)?),
+            Verb::Inverse => Operation::Inverse(value(kind, &first)?),
+            Verb::NonResidue => Operation::NonResidue,
+            Verb::ByNonResidue => Operation::ByNonResidue(value(kind, &first)?),
+            Verb::SqrtMinusOne => Operation::SqrtMinusOne,
+            Verb::Same => Operation::Same(value(kind, &first)?, value(kind, &second)?),
+            _ => return Err(Problem::NoSuchOperation),
+        },
+    )
 }
 
 // The value that a list in the order of the form stands for.
-fn value<F: Coordinates>(kind: Kind, list: &[u16]) -> Result<F, Fault> {
+pub(crate) fn value<F: Coordinates>(kind: Kind, list: &[u16]) -> Result<F, Fault> {
     match (kind, list) {
         (Kind::Long, [a, b, c, d, e, f, g, h]) => F::from_coefficients(
             &bit_reversed([*a, *b, *c, *d, *e, *f, *g, *h]),
@@ -168,7 +188,11 @@ fn value<F: Coordinates>(kind: Kind, list: &[u16]) -> Result<F, Fault> {
 }
 
 // The coefficients in the order of the form, joined by commas.
-fn shown<F: Coordinates>(heap: Global, kind: Kind, value: F) -> Result<String, AllocError> {
+pub(crate) fn shown<F: Coordinates>(
+    heap: Global,
+    kind: Kind,
+    value: F,
+) -> Result<String, AllocError> {
     let mut text = String::new(heap);
     let list = in_order(kind, value);
     for (place, coefficient) in list.iter().take(kind.count()).enumerate() {

@@ -1,7 +1,10 @@
 //! The calculator: reads one command a line from standard input and writes one answer a line.
+mod coded;
 mod commands;
 mod forms;
 mod lines;
+mod problems;
+mod words;
 
 use lines::LineBuffer;
 use std::error::AnyError;

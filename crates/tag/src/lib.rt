@@ -4,6 +4,7 @@ mod tags;
 mod tickets;
 
 pub use bodies::Body;
+pub use bodies::LONGEST_BODY;
 pub use bodies::open_body;
 pub use bodies::write_body;
 pub use tags::count_blocks;
