@@ -17,6 +17,7 @@ use coding::Short4093Coded;
 use coding::block;
 use coding::decode;
 use coding::encode;
+use coding::encoded_size;
 use fault::Part;
 use polynomial::PolynomialBasis;
 use prime::LongTower;
@@ -111,7 +112,7 @@ fn tag<F: CodedField>(heap: Global, key: &str, pad: &str, body: &str) -> Result<
 }
 
 fn encoding<F: CodedField>(heap: Global, value: F) -> Result<String, Problem> {
-    let mut bytes = zeros(heap, F::encoded_size())?;
+    let mut bytes = zeros(heap, encoded_size::<F>())?;
     encode(value, &mut bytes)?;
     Ok(words::hexadecimal(heap, &bytes)?)
 }

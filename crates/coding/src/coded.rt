@@ -1,8 +1,7 @@
 //! Coded fields: those whose values can be encoded in few enough bits, and carry tags.
 ghost use mathlib.Core.Path.{_≡_};
 ghost use Prim.Native.Nat.{ℕ};
-ghost use Rattle.coding.specs.Encoding.{Limits, encoded-size, block-size, block-coefficients};
-use super::bits;
+ghost use Rattle.coding.specs.Encoding.{Limits};
 use field::Coordinates;
 use field::Quadratic;
 use field::QuadraticCoordinates;
@@ -32,41 +31,6 @@ pub trait CodedField: Coordinates {
     // How many coefficients a value has.
     fn count() -> usize
         ensures { λ r. ⌜ r ≡ Self·Coordinates .layout .count ⌝ };
-
-    // The bytes of an encoded value.
-    fn encoded_size() -> usize
-    where
-        Self: Sized,
-        ensures { λ r. ⌜ r ≡ encoded-size bits (Self·Coordinates .layout .count) ⌝ }
-    {
-        (Self::count() * Self::width() as usize + 7) / 8
-    }
-
-    // The bytes of a block.
-    fn block_size() -> usize
-    where
-        Self: Sized,
-        ensures { λ r. ⌜ r ≡ block-size bits (Self·Coordinates .layout .count) ⌝ }
-    {
-        Self::count() * (Self::width() as usize - 1) / 8
-    }
-
-    // The value that a block stands for. Its bits fill groups of one bit less than the width, one for each power;
-    // missing bits are 0, so that a short block is as if filled up with 00.
-    fn from_block(block: &[u8]) -> Self
-    where
-        Self: Sized,
-        ensures { λ r. ⌜ Self·Field .arithmetic .meaning r ≡ Self·Coordinates .layout .from-power (block-coefficients bits (Self·Coordinates .layout .count) (now (block .entry))) ⌝ }
-    {
-        let count = Self::count();
-        let mut list = [0u16; 64];
-        let row = &mut list[0..count];
-        bits::cut_bits(block, Self::width() - 1, row);
-        match Self::from_coefficients(row) {
-            Ok(value) => value,
-            Err(_) => unreachable(),
-        }
-    }
 }
 
 pub impl CodedField for Quadratic<Coefficient<P4093>> as Short4093Coded {

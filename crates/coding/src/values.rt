@@ -9,12 +9,26 @@ ghost use Rattle.std.specs.declared.result.Result.the-variants.{Ok, Err};
 ghost use Rattle.fault.specs.declared.Part.{Part as the-part};
 ghost use Rattle.fault.specs.declared.Part.the-variants.{Call};
 ghost use Rattle.fault.specs.Faults.{fault};
-ghost use Rattle.coding.specs.Encoding.{encoded-size, encoded, standing, decoded, read-answer, Decoded, Encoding-is-one-number, Blocked};
+ghost use Rattle.coding.specs.Encoding.{encoded-size, block-size, encoded, standing, decoded, read-answer, Decoded, Encoding-is-one-number, block-coefficients, Blocked};
 use super::bits;
 use super::coded::CodedField;
 use fault::Fault;
 use fault::Part;
 use fault::Refusal;
+
+// T, the bytes of an encoded value.
+pub fn encoded_size<F: CodedField>() -> usize
+    ensures { λ r. ⌜ r ≡ encoded-size (F·CodedField .bits) (F·Coordinates .layout .count) ⌝ }
+{
+    (F::count() * F::width() as usize + 7) / 8
+}
+
+// B, the bytes of a block.
+pub fn block_size<F: CodedField>() -> usize
+    ensures { λ r. ⌜ r ≡ block-size (F·CodedField .bits) (F·Coordinates .layout .count) ⌝ }
+{
+    F::count() * (F::width() as usize - 1) / 8
+}
 
 // Encodes a value into bytes of just its size; into another size it is refused with 3, and nothing is written.
 pub fn encode<F: CodedField>(value: F, out: &mut [u8]) -> Result<(), Fault>
@@ -23,7 +37,7 @@ pub fn encode<F: CodedField>(value: F, out: &mut [u8]) -> Result<(), Fault>
     ensures one_number { λ _. ⌜ Encoding-is-one-number (F·CodedField .bits) (F·Coordinates .layout .count) (F·Coordinates .layout .by-power (F·Field .arithmetic .meaning value)) ⌝ }
     ensures decodes_back { λ _. ⌜ ((part : the-part) → decoded (F·Coordinates .layout) (F·CodedField .bits) part (encoded (F·CodedField .bits) (F·Coordinates .layout .count) (F·Coordinates .layout .by-power (F·Field .arithmetic .meaning value))) ≡ Ok (F·Coordinates .layout .by-power (F·Field .arithmetic .meaning value))) ⌝ }
 {
-    if out.len() != F::encoded_size() {
+    if out.len() != encoded_size::<F>() {
         return Err(Fault::of_call(Refusal::WrongSize));
     }
     let count = F::count();
@@ -41,7 +55,7 @@ pub fn decode<F: CodedField>(part: Part, bytes: &[u8]) -> Result<F, Fault>
     ensures answer { λ r. ⌜ Decoded (F·Field .arithmetic) (F·Coordinates .layout) (F·CodedField .bits) part (now (bytes .entry)) r ⌝ }
     ensures encodes_back { λ r. ⌜ Cases r (λ v. encoded (F·CodedField .bits) (F·Coordinates .layout .count) (F·Coordinates .layout .by-power (F·Field .arithmetic .meaning v)) ≡ now (bytes .entry)) (λ _. Unit {0}) ⌝ }
 {
-    if bytes.len() != F::encoded_size() {
+    if bytes.len() != encoded_size::<F>() {
         return Err(Fault::new(Refusal::WrongSize, part, 0));
     }
     let count = F::count();
@@ -85,8 +99,23 @@ fn read_coefficients(
 pub fn block<F: CodedField>(bytes: &[u8]) -> Result<F, Fault>
     ensures { λ r. ⌜ Blocked (F·Field .arithmetic) (F·Coordinates .layout) (F·CodedField .bits) (now (bytes .entry)) r ⌝ }
 {
-    if bytes.len() > F::block_size() {
+    if bytes.len() > block_size::<F>() {
         return Err(Fault::of_call(Refusal::WrongSize));
     }
-    Ok(F::from_block(bytes))
+    Ok(from_block(bytes))
+}
+
+// The value that a block stands for. Its bits fill groups of one bit less than the width, one for each power;
+// missing bits are 0, so that a short block is as if filled up with 00, and bits that fill no group are not read.
+pub fn from_block<F: CodedField>(block: &[u8]) -> F
+    ensures { λ r. ⌜ F·Field .arithmetic .meaning r ≡ F·Coordinates .layout .from-power (block-coefficients (F·CodedField .bits) (F·Coordinates .layout .count) (now (block .entry))) ⌝ }
+{
+    let count = F::count();
+    let mut list = [0u16; 64];
+    let row = &mut list[0..count];
+    bits::cut_bits(block, F::width() - 1, row);
+    match F::from_coefficients(row) {
+        Ok(value) => value,
+        Err(_) => unreachable(),
+    }
 }

@@ -53,11 +53,11 @@ pub impl<F: Field> Field for Quadratic<F> as QuadraticField {
     }
 
     fn square(self) -> Self {
-        let low = self.a0.square();
-        let high = self.a1.square();
+        let lower = self.a0.square();
+        let upper = self.a1.square();
         let cross = self.a0.mul(self.a1);
         Quadratic {
-            a0: low.add(high.mul_by_non_residue()),
+            a0: lower.add(upper.mul_by_non_residue()),
             a1: cross.add(cross),
         }
     }

@@ -93,7 +93,7 @@ pub impl<M: Modulus> Field for Coefficient<M> as CoefficientField {
     }
 
     fn inverse(self) -> Result<Self, Fault> {
-        if self.kept % M::modulus() == 0 {
+        if self.number() == 0 {
             Err(Fault::of_call(Refusal::ZeroHasNoInverse))
         } else {
             Ok(Coefficient {
@@ -126,7 +126,7 @@ pub impl<M: Modulus> Field for Coefficient<M> as CoefficientField {
     }
 
     fn same(self, other: Self) -> bool {
-        self.kept % M::modulus() == other.kept % M::modulus()
+        self.number() == other.number()
     }
 }
 

@@ -7,6 +7,8 @@ ghost use Rattle.tag.specs.KeyBound.{Few-keys-fit-two-bodies};
 ghost use Rattle.tag.specs.Tickets.{Answers, tag-answer, blocks-answer};
 use super::bodies::LONGEST_BODY;
 use coding::CodedField;
+use coding::block_size;
+use coding::from_block;
 use fault::Fault;
 use fault::Refusal;
 
@@ -27,7 +29,7 @@ fn cut(body: &[u8], size: usize, at: usize) -> &[u8]
 fn absorb<F: CodedField>(key: F, sum: F, block: &[u8]) -> F
     ensures { λ r. ⌜ F·Field .arithmetic .meaning r ≡ absorbed-of (F·Field .arithmetic) (F·Coordinates .layout) (F·CodedField .bits) (F·Field .arithmetic .meaning key) (F·Field .arithmetic .meaning sum) (now (block .entry)) ⌝ }
 {
-    sum.add(F::from_block(block)).mul(key)
+    sum.add(from_block(block)).mul(key)
 }
 
 // How many blocks a body of that length has, without the length block; refused with 5 for no body's length.
@@ -37,7 +39,7 @@ pub fn count_blocks<F: CodedField>(length: usize) -> Result<usize, Fault>
     if length < 2 || length > LONGEST_BODY {
         return Err(Fault::of_call(Refusal::WrongLength));
     }
-    let size = F::block_size();
+    let size = block_size::<F>();
     Ok((length + size - 1) / size)
 }
 
@@ -48,7 +50,7 @@ pub fn make_tag<F: CodedField>(key: F, pad: F, body: &[u8]) -> Result<F, Fault>
     ensures few_keys { λ _. ⌜ Few-keys-fit-two-bodies (F·Field .arithmetic) (F·Coordinates .layout) (F·CodedField .bits) ⌝ }
 {
     let count = count_blocks::<F>(body.len())?;
-    let size = F::block_size();
+    let size = block_size::<F>();
     let mut sum = F::zero();
     for at in 0..count {
         sum = absorb(key, sum, cut(body, size, at));

@@ -12,6 +12,7 @@ use super::bodies::open_body;
 use super::tags::make_tag;
 use coding::CodedField;
 use coding::decode;
+use coding::encoded_size;
 use fault::Fault;
 use fault::Part;
 use fault::Refusal;
@@ -20,7 +21,7 @@ use fault::Refusal;
 pub fn count_pads<F: CodedField>(pads: &[u8]) -> Result<usize, Fault>
     ensures { λ r. ⌜ r ≡ pads-answer (encoded-size (F·CodedField .bits) (F·Coordinates .layout .count)) (length (now (pads .entry))) ⌝ }
 {
-    let size = F::encoded_size();
+    let size = encoded_size::<F>();
     let count = pads.len() / size;
     if count * size != pads.len() || count < 1 || count > 1024 {
         return Err(Fault::of_call(Refusal::BadPads));
@@ -36,7 +37,7 @@ pub fn read_pad<F: CodedField>(pads: &[u8], number: usize) -> Result<F, Fault>
     if number >= count {
         return Err(Fault::of_call(Refusal::NumberOutOfRange));
     }
-    let size = F::encoded_size();
+    let size = encoded_size::<F>();
     let from = size * number;
     decode(Part::Pad, &pads[from..from + size])
 }
@@ -50,7 +51,7 @@ pub fn check_ticket<'a, F: CodedField>(
 ) -> Result<Body<'a>, Fault>
     ensures { λ r. ⌜ Cases r (λ b. ticket-answer (F·Field .arithmetic) (F·Coordinates .layout) (F·CodedField .bits) (F·Field .arithmetic .meaning key) (now (pads .entry)) (now (ticket .entry)) ≡ Ok (record { number = b .number; route = b .route; text = now (b .text) })) (λ f. ticket-answer (F·Field .arithmetic) (F·Coordinates .layout) (F·CodedField .bits) (F·Field .arithmetic .meaning key) (now (pads .entry)) (now (ticket .entry)) ≡ Err f) ⌝ }
 {
-    let size = F::encoded_size();
+    let size = encoded_size::<F>();
     if ticket.len() < size + 2 || ticket.len() > size + LONGEST_BODY {
         return Err(Fault::of_call(Refusal::WrongLength));
     }

@@ -10,8 +10,8 @@ use Rattle.fault.specs.declared.Fault.{Fault}
 use Rattle.field.specs.Coordinates.{Layout, coefficients}
 use Rattle.coding.specs.Encoding.{Limits, block-coefficients}
 use Rattle.coding.proofs.RoundTrips.{block-is-coefficients, coefficients-taken}
-use Rattle.coding.proofs.coded.CodedField.from_block.Given as given
-use Rattle.coding.proofs.coded.CodedField.from_block.Needs as need
+use Rattle.coding.proofs.values.from_block.Given as given
+use Rattle.coding.proofs.values.from_block.Needs as need
 
 -- the groups of bits of a block are taken as coefficients
 taken : (l : Layout) (w : ℕ) → Limits l w → (bytes row : List ℕ) → row ≡ block-coefficients w (l .count) bytes → coefficients l row ≡ Ok (block-coefficients w (l .count) bytes)
@@ -19,9 +19,9 @@ taken l w limits bytes row e = ap (coefficients l) e ∙ coefficients-taken l _ 
 
 pub unreachable-requires : need.unreachable-requires
 unreachable-requires g c κs =
-    let l = g .Self·Coordinates .layout in
-    let w = g .Self·CodedField .bits in
-    let limits = g .Self·CodedField·met .limits in
+    let l = g .F·Coordinates .layout in
+    let w = g .F·CodedField .bits in
+    let limits = g .F·CodedField·met .limits in
     let long : length {A = ℕ} (take (c .count-count .result - 0) (replicate 64 0)) ≡ l .count =
     length-take-le (c .count-count .result - 0) (replicate 64 0) (omega (arith, limits .count-to)) ∙ omega arith in
     let row = rw (c .width .ensures, long) at (c .cut-bits .ensures) in
@@ -32,10 +32,10 @@ unreachable-requires g c κs =
 
 pub returns : need.returns
 returns g c =
-    let a = g .Self·Field .arithmetic in
-    let l = g .Self·Coordinates .layout in
-    let w = g .Self·CodedField .bits in
-    let limits = g .Self·CodedField·met .limits in
+    let a = g .F·Field .arithmetic in
+    let l = g .F·Coordinates .layout in
+    let w = g .F·CodedField .bits in
+    let limits = g .F·CodedField·met .limits in
     let long : length {A = ℕ} (take (c .count-count .result - 0) (replicate 64 0)) ≡ l .count =
     length-take-le (c .count-count .result - 0) (replicate 64 0) (omega (arith, limits .count-to)) ∙ omega arith in
     let row = rw (c .width .ensures, long) at (c .cut-bits .ensures) in
@@ -43,4 +43,4 @@ returns g c =
     let e : _≡_ {A = Result (List ℕ) Fault} (Ok xs) (Ok (l .by-power (a .meaning (c .in-Ok .value)))) =
     sym (taken l w limits (c .args .block .now) (c .cut-bits .last .out) row) ∙ c .in-Ok .ensures tt in
     let same : xs ≡ l .by-power (a .meaning (c .in-Ok .value)) = cc in
-    sym (g .Self·Coordinates·met .coordinates .told-back (c .in-Ok .value)) ∙ ap (l .from-power) (sym same)
+    sym (g .F·Coordinates·met .coordinates .told-back (c .in-Ok .value)) ∙ ap (l .from-power) (sym same)
