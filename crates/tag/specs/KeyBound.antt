@@ -20,12 +20,12 @@ module _ {V : Type 0} (a : Arithmetic V) (l : Layout) (w : ℕ) where
   Different [] = Unit {0}
   Different (x ∷ xs) = Every (λ y. a .meaning x ≢ a .meaning y) xs × Different xs
 
-  -- under this key some one pad gives each body its named tag
+  -- with this key there is one pad for which the two bodies have the two tags
   abbrev pub Fits : List ℕ → V → List ℕ → V → V → Type 0
   Fits x s y t key = ∥ ((pad : V) × (tag-of a l w (a .meaning key) (a .meaning pad) x ≡ a .meaning s) × (tag-of a l w (a .meaning key) (a .meaning pad) y ≡ a .meaning t)) ∥₁
 
-  -- For any two unequal bodies, each with a tag named for it, no list of different keys that fit is longer than
-  -- one more than the larger body's count of blocks.
+  -- Of two unequal bodies and a tag for each: different keys that fit them are at most one more than the blocks of the
+  -- body that has more.
   abbrev pub Few-keys-fit-two-bodies : Type 0
   Few-keys-fit-two-bodies =
       (x y : List ℕ) → Body x → Body y → x ≢ y → (s t : V) (keys : List V) → Different keys → Every (Fits x s y t) keys

@@ -51,6 +51,6 @@ module _ {V : Type 0} (a : Arithmetic V) (l : Layout) (w : ℕ) where
   weighed key [] = a .zero
   weighed key (b ∷ bs) = a .plus (a .times (block-value b) (power key (length (b ∷ bs)))) (weighed key bs)
 
-  -- The tag as a sum: each block weighed by its power of the key, the length block by the key, plus the pad.
+  -- The tag as a sum: the blocks weighed by falling powers of the key, last the length block by the key itself; and the pad.
   abbrev pub Tag-is-weighed-sum : Type 0
   Tag-is-weighed-sum = (key pad : V) (body : List ℕ) → tag-of (a .meaning key) (a .meaning pad) body ≡ a .plus (weighed (a .meaning key) (blocks (block-size w (l .count)) body ++ length-block body ∷ [])) (a .meaning pad)
