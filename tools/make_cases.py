@@ -44,9 +44,11 @@ ZERO_INVERSE = "refused 2 0 0"
 WRONG_COUNT = "refused 3 0 0"
 WRONG_PADDING = "refused 4 0 0"
 WRONG_LENGTH = "refused 5 0 0"
+BAD_PADS = "refused 6 0 0"
 NUMBER_TOO_LARGE = "refused 8 0 0"
+FALSE_TAG = "refused 11 0 0"
 ROUTE_TOO_LARGE = "refused 17 0 0"
-KEY, PAD = 1, 2
+KEY, PAD, TAG = 1, 2, 3
 
 
 def out_of_range(power, part=0):
@@ -1044,6 +1046,87 @@ def tags_refused(cases, draw):
     cases.ask(short, "tag", right, encoded(short, [0, 1021], "0001"), body, expected=out_of_range(1, PAD))
 
 
+def tickets(cases, draw):
+    for form in SIZES:
+        family, q = form
+        count, (size, block) = COUNTS[family], SIZES[form]
+        key, right = (encoded(form, draw.value(family, q)) for _ in range(2))
+        over = encoded(form, [0] * (count - 1) + [q])
+        ones = b"\xff" * size
+
+        def ticket(number, route, text, pad):
+            """A ticket whose tag the calculator itself has made."""
+            body = cases.ask(form, "body", number, route, text)
+            return bytes.fromhex(body + cases.ask(form, "tag", key, pad, body))
+
+        def ask(pads, content, expected):
+            return cases.ask(form, "ticket", key, pads, content, expected=expected)
+
+        cases.group("Tickets with their right tags in %s-%d" % form)
+        most = min(1024, 3000 // (2 * size))
+        pads = [encoded(form, draw.value(family, q)) for _ in range(most)]
+        row = b"".join(pads)
+        for number, route, length in ((0, 0, 0), (1, 63, 1), (most - 1, 5, block), (7, 40, block - 1), (2, 9, 2 * block)):
+            text = draw.bytes(length)
+            ask(row, ticket(number, route, text, pads[number]), "%d %d %s" % (number, route, notation(text)))
+        longest = draw.bytes(438)
+        ask(pads[0], ticket(0, 17, longest, pads[0]), "0 17 %s" % notation(longest))
+        ask(bytes(size), ticket(0, 1, b"", bytes(size)), "0 1 -")
+
+        cases.group("Tickets that are refused in %s-%d" % form)
+        good = ticket(1, 5, b"Hi", pads[1])
+        body, tag = good[:-size], good[-size:]
+        two = pads[0] + pads[1]
+        ask(two, good, "1 5 4869")
+        for length in (0, 1, size, size + 1, size + 441):
+            ask(two, bytes(length), WRONG_LENGTH)
+        ask(pads[0], bytes(size + 440), FALSE_TAG)
+        for wrong in (b"", two[:-1], two + b"\x00", b"\x00"):
+            ask(wrong, good, BAD_PADS)
+        ask(pads[0], good, NUMBER_TOO_LARGE)
+        ask(two, b"\xff\xff" + tag, NUMBER_TOO_LARGE)
+        ask(pads[0] + over, good, out_of_range(count - 1, PAD))
+        ask(over + pads[1], good, "1 5 4869")
+        ask(two + ones, good, "1 5 4869")
+        ask(two, body + over, out_of_range(count - 1, TAG))
+        ask(pads[1] + pads[0], good, FALSE_TAG)
+        ask(two, body + with_byte(tag, 0, tag[0] ^ 16), None)
+        ask(two, body + b"\x00" + tag, FALSE_TAG)
+        ask(two, body[:-1] + tag, FALSE_TAG)
+        # A bit of the first byte is of the number.
+        ask(two, with_byte(body, 0, body[0] ^ 1) + tag, NUMBER_TOO_LARGE)
+        for place in range(1, len(body)):
+            ask(two, with_byte(body, place, body[place] ^ 1) + tag, FALSE_TAG)
+        cases.ask(form, "ticket", right, two, good, expected=FALSE_TAG)
+
+        cases.group("The order of the tests of a ticket in %s-%d" % form)
+        cases.ask(form, "ticket", over, "-", "-", expected=out_of_range(count - 1, KEY))
+        cases.ask(form, "ticket", "-", "-", "-", expected="refused 3 1 0")
+        ask("-", "-", WRONG_LENGTH)
+        ask("-", bytes(size + 441), WRONG_LENGTH)
+        ask("00", b"\xff\xff" + ones, BAD_PADS)
+        ask(over, b"\xff\xff" + ones, NUMBER_TOO_LARGE)
+        ask(pads[0] + over, body + ones, out_of_range(count - 1, PAD))
+        ask(two, body + ones, out_of_range(0, TAG))
+    short = ("short", 1021)
+    cases.group("Padding bits of pads and tags in short-1021")
+    key = encoded(short, draw.value(*short))
+    for padding in ("1000", "0001"):
+        wrong = encoded(short, draw.value(*short), padding)
+        cases.ask(short, "ticket", key, wrong, bytes(2) + wrong, expected="refused 4 2 0")
+        cases.ask(short, "ticket", key, bytes(3), bytes(2) + wrong, expected="refused 4 3 0")
+        cases.ask(short, "ticket", wrong, bytes(3), bytes(2) + wrong, expected="refused 4 1 0")
+    cases.group("A ticket and its pads that are not bytes")
+    for form in SIZES:
+        key = bytes(SIZES[form][0])
+        cases.ask(form, "ticket", "0", "-", "-", expected=NOT_BYTES)
+        cases.ask(form, "ticket", "-", "x", "-", expected=NOT_BYTES)
+        cases.ask(form, "ticket", key, "-", "0g", expected=NOT_BYTES)
+        cases.ask(form, "ticket", key, "-", expected=WRONG_NUMBER)
+    for q in MODULI:
+        cases.ask(("prime", q), "ticket", "-", "-", "-", expected=NO_OPERATION)
+
+
 def counts_of_blocks(cases):
     for form in SIZES:
         size = SIZES[form][1]
@@ -1215,6 +1298,7 @@ def make():
     bodies(cases, draw)
     tags(cases, draw)
     tags_refused(cases, draw)
+    tickets(cases, draw)
     counts_of_blocks(cases)
     not_bytes(cases)
     not_numbers(cases)

@@ -28,13 +28,16 @@ ZERO_HAS_NO_INVERSE = 2
 WRONG_COUNT = 3
 PADDING_NOT_ZERO = 4
 WRONG_LENGTH = 5
+BAD_PADS = 6
 NUMBER_OUT_OF_RANGE = 8
+FALSE_TAG = 11
 ROUTE_OUT_OF_RANGE = 17
 
 # Numbers of the parts of the input that a refusal names.
 PART_CALL = 0
 PART_KEY = 1
 PART_PAD = 2
+PART_TAG = 3
 
 # A body is a number and a route in two bytes, then the text.
 LARGEST_NUMBER = 1023
@@ -273,6 +276,29 @@ def tag(form, key, pad, body):
     return result
 
 
+MOST_PADS = 1024
+
+
+def open_ticket(form, key, pads, ticket):
+    """The number, the route and the text of a ticket whose tag is right."""
+    size = encoded_size(form)
+    if not size + SHORTEST_BODY <= len(ticket) <= size + LONGEST_BODY:
+        raise Refused(WRONG_LENGTH)
+    how_many, left = divmod(len(pads), size)
+    if left or not 1 <= how_many <= MOST_PADS:
+        raise Refused(BAD_PADS)
+    body, encoded_tag = ticket[:-size], ticket[-size:]
+    number, route = divmod(int.from_bytes(body[:2], "big"), LARGEST_ROUTE + 1)
+    if number >= how_many:
+        raise Refused(NUMBER_OUT_OF_RANGE)
+    pad = decode(form, pads[number * size :][:size], PART_PAD)
+    # The difference between the named tag and the right one, which must vanish.
+    named = decode(form, encoded_tag, PART_TAG)
+    if any(add(form, named, negative(form, tag(form, key, pad, body)))):
+        raise Refused(FALSE_TAG)
+    return number, route, body[2:]
+
+
 # --- Notation ----------------------------------------------------------------
 
 NUMBERS = re.compile(r"[0-9]+(?:,[0-9]+)*")
@@ -355,6 +381,10 @@ def write_value(form, powers):
     return write_numbers(by_place(form, powers))
 
 
+def write_ticket(number, route, text):
+    return "%d %d %s" % (number, route, write_bytes(text))
+
+
 def write_yes_or_no(truth):
     return "yes" if truth else "no"
 
@@ -380,6 +410,8 @@ ROUTE = ArgumentKind(understand_number, build_route)
 TEXT = ArgumentKind(understand_bytes, build_text)
 BODY = ArgumentKind(understand_bytes, build_body)
 LENGTH = ArgumentKind(understand_number, build_length)
+# Judged together, after all arguments before them.
+PADS = TICKET = ArgumentKind(understand_bytes, lambda form, content: content)
 
 # arguments: the kinds of the arguments; answer: from the form and the built
 # arguments to the text of the answer; families: the forms that have it.
@@ -423,6 +455,9 @@ OPERATIONS = {
     ),
     "tag": coded_operation(
         lambda form, *built: write_bytes(encode(form, tag(form, *built))), KEY, PAD, BODY
+    ),
+    "ticket": coded_operation(
+        lambda form, *built: write_ticket(*open_ticket(form, *built)), KEY, PADS, TICKET
     ),
     "blocks": coded_operation(lambda form, length: str(count_blocks(form, length)), LENGTH),
 }

@@ -1,4 +1,4 @@
-//! Operations on encodings, blocks, bodies and tags, in the forms that carry tags.
+//! Operations on encodings, blocks, bodies, tags and tickets, in the forms that carry tags.
 use super::commands::Verb;
 use super::forms;
 use super::forms::Form;
@@ -28,7 +28,9 @@ use prime::P4093Modulus;
 use prime::ShortTower;
 use std::alloc::AllocError;
 use std::alloc::Global;
+use tag::Body;
 use tag::LONGEST_BODY;
+use tag::check_ticket;
 use tag::count_blocks;
 use tag::make_tag;
 use tag::write_body;
@@ -82,6 +84,7 @@ fn by_field<F: CodedField>(
         }
         (Verb::Body, [number, route, text]) => body(heap, number, route, text),
         (Verb::Tag, [key, pad, body]) => tag::<F>(heap, key, pad, body),
+        (Verb::Ticket, [key, pads, bytes]) => ticket::<F>(heap, key, pads, bytes),
         (Verb::Blocks, [length]) => {
             let count = count_blocks::<F>(words::number(length)? as usize)?;
             Ok(format!(heap, "{count}")?)
@@ -109,6 +112,26 @@ fn tag<F: CodedField>(heap: Global, key: &str, pad: &str, body: &str) -> Result<
     let key: F = decode(Part::Key, &key)?;
     let pad: F = decode(Part::Pad, &pad)?;
     encoding(heap, make_tag(key, pad, &body)?)
+}
+
+// The number, the route and the text of a ticket whose tag is right.
+fn ticket<F: CodedField>(
+    heap: Global,
+    key: &str,
+    pads: &str,
+    bytes: &str,
+) -> Result<String, Problem> {
+    let key = words::bytes(heap, key)?;
+    let pads = words::bytes(heap, pads)?;
+    let bytes = words::bytes(heap, bytes)?;
+    let key: F = decode(Part::Key, &key)?;
+    let Body {
+        number,
+        route,
+        text,
+    } = check_ticket(key, &pads, &bytes)?;
+    let text = words::hexadecimal(heap, text)?;
+    Ok(format!(heap, "{number} {route} {text}")?)
 }
 
 fn encoding<F: CodedField>(heap: Global, value: F) -> Result<String, Problem> {

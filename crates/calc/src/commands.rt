@@ -28,6 +28,7 @@ pub(crate) enum Verb {
     Body,
     Tag,
     Blocks,
+    Ticket,
 }
 
 impl Verb {
@@ -49,6 +50,7 @@ impl Verb {
             "body" => Some(Verb::Body),
             "tag" => Some(Verb::Tag),
             "blocks" => Some(Verb::Blocks),
+            "ticket" => Some(Verb::Ticket),
             _ => None,
         }
     }
@@ -57,16 +59,16 @@ impl Verb {
         match self {
             Verb::NonResidue | Verb::SqrtMinusOne => 0,
             Verb::Add | Verb::Mul | Verb::Same => 2,
-            Verb::Body | Verb::Tag => 3,
+            Verb::Body | Verb::Tag | Verb::Ticket => 3,
             _ => 1,
         }
     }
 
-    // Whether it is about encodings, blocks, bodies or tags.
+    // Whether it is about encodings, blocks, bodies, tags or tickets.
     pub(crate) fn is_coded(self) -> bool {
         match self {
-            Verb::Encode | Verb::Decode | Verb::Block | Verb::Body | Verb::Tag | Verb::Blocks =>
-                true,
+            Verb::Encode | Verb::Decode | Verb::Block | Verb::Blocks => true,
+            Verb::Body | Verb::Tag | Verb::Ticket => true,
             _ => false,
         }
     }

@@ -68,6 +68,9 @@ fn digit(byte: u8) -> Result<u8, Problem> {
 }
 
 pub(crate) fn hexadecimal(heap: Global, bytes: &[u8]) -> Result<String, AllocError> {
+    if bytes.is_empty() {
+        return String::from_str(heap, "-");
+    }
     let mut text = String::new(heap);
     for byte in bytes {
         text.push_str(format!(heap, "{byte:02X}")?.as_str())?;
