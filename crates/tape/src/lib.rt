@@ -5,6 +5,9 @@ use fault::Fault;
 use fault::Part;
 use fault::Refusal;
 
+#[cfg(test)]
+mod tests;
+
 // What a record asks for; a check has the bytes of its ticket, where they lie on the tape.
 #[derive(Clone, Copy)]
 pub enum Record<'a> {
