@@ -1,4 +1,6 @@
 //! The calculator: reads one command a line from standard input and writes one answer a line.
+#![tactic(auto)]
+
 mod coded;
 mod commands;
 mod forms;

@@ -1,4 +1,6 @@
 //! One calculation over any field whose values are known by their coefficients.
+#![tactic(auto)]
+
 ghost use Rattle.std.specs.Prelude.{◌≡◌};
 ghost use Rattle.calculator.specs.Calculations.{Calculated};
 ghost use Rattle.calculator.specs.WorkedExamples.{WorkedExamples};

@@ -1,4 +1,6 @@
 //! Coded fields, encodings of values, and blocks.
+#![tactic(auto)]
+
 mod bits;
 mod coded;
 mod values;

@@ -1,5 +1,7 @@
 //! The engine's calls for programs in other languages: numbers and rows of numbers in, one number out. `include/door.h` declares
 //! them for C. A row is a pointer and a count there; no call asks more of its arguments than that they are such rows.
+#![tactic(auto)]
+
 mod calls;
 mod codes;
 mod exports;

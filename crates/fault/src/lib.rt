@@ -1,4 +1,6 @@
 //! Faults: why a call was refused, in which part of its input, and at which place.
+#![tactic(auto)]
+
 ghost use Rattle.std.specs.Prelude.{◌≡◌, Some};
 ghost use Rattle.fault.specs.Faults.{fault, refusal, refusal_number, part_number, fault_text};
 

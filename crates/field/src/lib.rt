@@ -1,4 +1,6 @@
 //! Fields: the interface and its laws, and the quadratic extension of any field.
+#![tactic(auto)]
+
 mod extension;
 mod interface;
 mod powers;

@@ -1,4 +1,6 @@
 //! Issues tickets: reads a key, pads and orders from standard input, one a line, and writes one answer a line.
+#![tactic(auto)]
+
 mod desk;
 mod lines;
 mod orders;

@@ -1,4 +1,6 @@
 //! Issuing tickets: numbers are drawn as stubs, and each stub is sealed or voided.
+#![tactic(auto)]
+
 mod issuers;
 mod marks;
 mod stubs;

@@ -1,4 +1,6 @@
 //! A shift played from its input: one line for each record of the tape.
+#![tactic(auto)]
+
 mod inputs;
 mod lines;
 mod shift;

@@ -1,4 +1,6 @@
 //! Prime fields: the moduli, their coefficients, and the towers that stand on them.
+#![tactic(auto)]
+
 mod coefficients;
 mod moduli;
 mod tables;

@@ -1,4 +1,6 @@
 //! Plays a validator's shift: key, pads and tape from standard input, one line for each record to standard output.
+#![tactic(auto)]
+
 use playback::{LONGEST_INPUT, page, play};
 use polynomial::PolynomialBasis;
 use prime::P4093;

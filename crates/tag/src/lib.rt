@@ -1,4 +1,6 @@
 //! Bodies of tickets and their tags.
+#![tactic(auto)]
+
 mod bodies;
 mod tags;
 mod tickets;

@@ -1,4 +1,6 @@
 //! The tape of a shift: records of checks, cancels and reports, read one after the other.
+#![tactic(auto)]
+
 ghost use Rattle.std.specs.Prelude.{◌≡◌};
 ghost use Rattle.tape.specs.Records.{answered, next_record, place_after, ReadsWhatStands, ReadingIsWhole};
 

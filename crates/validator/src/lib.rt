@@ -1,4 +1,6 @@
 //! A validator of tickets: which numbers have ridden or are cancelled, and the rides of each route.
+#![tactic(auto)]
+
 ghost use Rattle.std.specs.Prelude.{◌≡◌, ◌<◌, IfOk};
 ghost use Rattle.tag.specs.Tickets.{key_answer};
 ghost use Rattle.validator.specs.Calls.{next_mark_of, done, blank, Placed, number_answer, check_answer, cancel_answer, report_answer, after, check as check_of, cancel as cancel_of};

@@ -20,9 +20,9 @@ returns g c =
     let f = g.F.Field.arithmetic in
     let l = g.met.F.Field.laws in
     let norm : f.meaning c.add-norm.result ≡ norm_of l (λ x. x.a0) (λ x. x.a1) c.args.self =
-    c.add-norm.ensures ∙ ap₂ f.plus c.square-low.ensures (c.neg.ensures ∙ ap f.opposite (c.mul-by-non-residue.ensures ∙ ap (f.times f.non_residue) c.square-high.ensures)) in
+    c.add-norm.ensures ∙ ap₂ f.plus c.square-low.ensures (c.neg.ensures ∙ ap f.opposite (c.mul_by_non_residue.ensures ∙ ap (f.times f.non_residue) c.square-high.ensures)) in
     let product =
     ap ((extension f (λ (x : Quadratic g.row.F.Denot). x.a0) (λ x. x.a1)).times (f.meaning c.args.self.a0 ++ f.meaning c.args.self.a1))
     (ap₂ ◌++◌ c.mul.ensures (c.neg-2.ensures ∙ ap f.opposite c.mul-2.ensures))
-    ∙ extension_inverse l (λ x. x.a0) (λ x. x.a1) c.args.self c.in-ok-factor.factor (ap (λ t. f.times t (f.meaning c.in-ok-factor.factor)) (sym norm) ∙ c.in-ok-factor.ensures.1) in
+    ∙ extension_inverse l (λ x. x.a0) (λ x. x.a1) c.args.self c.in_ok-factor.factor (ap (λ t. f.times t (f.meaning c.in_ok-factor.factor)) (sym norm) ∙ c.in_ok-factor.ensures.1) in
     (inverse_not_zero (extension_laws l (λ x. x.a0) (λ x. x.a1) (λ x y. (record { a0 = x; a1 = y }, refl, refl))) c.args.self (record { a0 = c.mul.result; a1 = c.neg-2.result }) product, product)

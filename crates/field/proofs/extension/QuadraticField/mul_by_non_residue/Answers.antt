@@ -4,5 +4,5 @@ use Rattle.field.proofs.extension.QuadraticField.mul_by_non_residue.Goals as goa
 
 pub returns : goal.returns
 returns g c =
-    ap (λ t. t ++ g.F.Field.arithmetic.meaning c.args.self.a0) c.mul-by-non-residue.ensures
+    ap (λ t. t ++ g.F.Field.arithmetic.meaning c.args.self.a0) c.mul_by_non_residue.ensures
     ∙ extension_by_generator g.met.F.Field.laws (λ x. x.a0) (λ x. x.a1) c.args.self

@@ -18,11 +18,11 @@ loop-power-preserved g c =
     let xs = c.args.coefficients.now in
     let i = c.loop-power.power in
     let zs = y.by_power (g.Self.Field.arithmetic.meaning c.loop-power.value) in
-    let counted : length xs ≡ y.count = eqb-true _ _ (sym c.has-count.ensures ∙ c.if-not-has-count.false) in
+    let counted : length xs ≡ y.count = eqb-true _ _ (sym c.has_count.ensures ∙ c.if-not-has_count.false) in
     let whole : length zs ≡ y.count = (g.met.Self.Coordinates.coordinates.told c.loop-power.value).0 in
     let within : i < length xs = c.loop-power-test.true in (
-      ap (take (i + 1)) c.in-ok-value.ensures.1 ∙ one_more_set xs zs i within (omega arith) c.loop-power.invariant.0,
-      one_more_in_range y.modulus xs i within c.in-ok-value.ensures.0 c.loop-power.invariant.1,
+      ap (take (i + 1)) c.in_ok-value.ensures.1 ∙ one_more_set xs zs i within (omega arith) c.loop-power.invariant.0,
+      one_more_in_range y.modulus xs i within c.in_ok-value.ensures.0 c.loop-power.invariant.1,
     )
 
 pub returns : goal.returns
@@ -31,7 +31,7 @@ returns g c =
     let xs = c.args.coefficients.now in
     let i = c.loop-power.power in
     let zs = y.by_power (g.Self.Field.arithmetic.meaning c.loop-power.value) in
-    let counted = sym c.has-count.ensures ∙ c.if-not-has-count.false in
+    let counted = sym c.has_count.ensures ∙ c.if-not-has_count.false in
     let n : length xs ≡ y.count = eqb-true _ _ counted in
     let whole : length zs ≡ y.count = (g.met.Self.Coordinates.coordinates.told c.loop-power.value).0 in
     let past : length xs ≤ i = c.loop-power-test.false in
