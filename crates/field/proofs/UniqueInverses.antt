@@ -1,8 +1,8 @@
 -- Inverses are unique in every field, and in the tower of each height on it.
-use Rattle.std.proofs.Common.{◌≡◌, ℕ, zero, suc, ◌≢◌, sym, refl, ap, ◌∙◌}
+use Rattle.std.proofs.Common.{ℕ, zero, suc, ◌≢◌, sym, refl, ap, ◌∙◌}
 use mathlib.Core.Path.{fst_path}
 use Rattle.field.specs.Fields.{Arithmetic, Laws}
-use Rattle.field.specs.Extensions.{Tower, tower}
+use Rattle.field.specs.Extensions.{tower}
 use Rattle.field.specs.Inverses.{Inverse, JustOneInverse, UniqueInversesAtEveryHeight}
 use Rattle.field.specs.Rings.{inverse_unique, zero_times}
 use Rattle.field.specs.Meanings.{meaning_of, same_list, meanings, meanings_ring}

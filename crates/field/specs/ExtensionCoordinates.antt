@@ -1,8 +1,7 @@
 -- Coefficients by power of a quadratic extension, from those of the field below.
-use Rattle.std.specs.Prelude.{◌≡◌, ℕ, ◌+◌, ◌<◌, List, ◌++◌, length, get_or, take, drop, set, replicate}
+use Rattle.std.specs.Prelude.{◌≡◌, ℕ, ◌+◌, ◌<◌, List, ◌++◌, length}
 use Rattle.std.proofs.Common.{sym, ap, ap₂, ◌∙◌}
 use Rattle.std.proofs.Math.Logic.{∥∥₁_map₂}
-use Rattle.std.specs.Simd.Lanes.{Each1}
 use Rattle.field.specs.Fields.{Arithmetic, Laws}
 use Rattle.field.specs.Extensions.{extension}
 use Rattle.field.specs.Coordinates.{Layout, Coefficients, CoordinateLaws, interleaved, evens, odds, extension_layout}

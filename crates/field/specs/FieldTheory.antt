@@ -1,5 +1,5 @@
 -- Fields on any type: no divisors of zero, and what a value that is no square gives.
-use Rattle.std.specs.Prelude.{◌≡◌, ◌≢◌, List, [], ◌∷◌, refl}
+use Rattle.std.specs.Prelude.{◌≡◌, ◌≢◌, [], ◌∷◌, refl}
 use Rattle.std.proofs.Common.{sym, ap, ◌∙◌}
 use Rattle.field.specs.Rings.{Operations, Ring, zero_plus, times_zero}
 use Rattle.field.specs.Quotes.{quotes, ring}

@@ -1,5 +1,5 @@
 -- Pairs a0 + a1·g over a field, with g·g a value s that is no square: they are a field, and g is no square in it.
-use Rattle.std.specs.Prelude.{◌≡◌, ◌≢◌, List, [], ◌∷◌, refl}
+use Rattle.std.specs.Prelude.{◌≡◌, [], ◌∷◌, refl}
 use Rattle.std.proofs.Math.Path.{Path}
 use Rattle.std.proofs.Common.{sym, ap, ◌∙◌}
 use mathlib.Core.HLevel.{×_discrete}

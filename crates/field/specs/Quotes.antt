@@ -1,6 +1,6 @@
 -- `ring o r (x ∷ y ∷ []) (search quotes) refl` proves an equation between ring expressions in x and y.
 -- The search finds the expressions, and the solver compares their normal forms.
-use Rattle.std.specs.Prelude.{◌≡◌, ℕ, zero, suc, ◌+◌, List, [], ◌∷◌, slice_index_or, refl}
+use Rattle.std.specs.Prelude.{◌≡◌, ℕ, suc, ◌+◌, List, [], ◌∷◌, slice_index_or, refl}
 use Rattle.std.proofs.Common.{sym, ap, ap₂, ◌∙◌, add-zero, zero-add, add-suc, suc-add}
 use Rattle.field.specs.Rings.{Operations, Ring}
 use Rattle.field.specs.Solver.{Expression, at, e0, e1, ◌⊕◌, ◌⊗◌, ⊖◌, value, solve, Same}

@@ -1,5 +1,5 @@
 -- Commutative rings: the operations, the laws, and what follows from them at once.
-use Rattle.std.specs.Prelude.{◌≡◌, refl}
+use Rattle.std.specs.Prelude.{◌≡◌}
 use Rattle.std.proofs.Common.{sym, ap, ap₂, ◌∙◌}
 
 pub record Operations (A : Type 0) : Type 0 where

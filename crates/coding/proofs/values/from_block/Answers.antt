@@ -18,9 +18,9 @@ unreachable-requires g c =
     let limits = g.met.F.CodedField.limits in
     let long : length {A = ℕ} (take (c.count-count.result - 0) (replicate 64 0)) ≡ l.count =
     length-take-le (c.count-count.result - 0) (replicate 64 0) (omega (arith, limits.count_to)) ∙ omega arith in
-    let row = rw (c.width.ensures, long) at c.cut-bits.ensures in
+    let row = rw (c.width.ensures, long) at c.cut_bits.ensures in
     let e : ◌≡◌ {A = Result (List ℕ) Fault} (Ok (block_coefficients w l.count c.args.block.now)) (Err c.in-Err.field-0) =
-    sym (taken l w limits c.args.block.now c.cut-bits.new.out row) ∙ c.in-Err.ensures in
+    sym (taken l w limits c.args.block.now c.cut_bits.new.out row) ∙ c.in-Err.ensures in
     let z : ◌≡◌ {A = ℕ} 0 1 = cc in
     omega arith
 
@@ -32,9 +32,9 @@ returns g c =
     let limits = g.met.F.CodedField.limits in
     let long : length {A = ℕ} (take (c.count-count.result - 0) (replicate 64 0)) ≡ l.count =
     length-take-le (c.count-count.result - 0) (replicate 64 0) (omega (arith, limits.count_to)) ∙ omega arith in
-    let row = rw (c.width.ensures, long) at c.cut-bits.ensures in
+    let row = rw (c.width.ensures, long) at c.cut_bits.ensures in
     let xs = block_coefficients w l.count c.args.block.now in
     let e : ◌≡◌ {A = Result (List ℕ) Fault} (Ok xs) (Ok (l.by_power (a.meaning c.in-Ok.value))) =
-    sym (taken l w limits c.args.block.now c.cut-bits.new.out row) ∙ c.in-Ok.ensures in
+    sym (taken l w limits c.args.block.now c.cut_bits.new.out row) ∙ c.in-Ok.ensures in
     let same : xs ≡ l.by_power (a.meaning c.in-Ok.value) = cc in
     sym (g.met.F.Coordinates.coordinates.told_back c.in-Ok.value) ∙ ap l.from_power (sym same)

@@ -3,6 +3,6 @@ use Rattle.door.proofs.calls.product_of.Goals as goal
 
 pub returns : goal.returns
 returns g c =
-    let x = g.met.F.Coordinates.coordinates.told_back c.in-ok-x.x in
-    let y = g.met.F.Coordinates.coordinates.told_back c.in-ok-y.y in
+    let x = g.met.F.Coordinates.coordinates.told_back c.in_ok-x.x in
+    let y = g.met.F.Coordinates.coordinates.told_back c.in_ok-y.y in
     search rules

@@ -6,7 +6,7 @@ pub returns : goal.returns
 returns g c =
     let l = g.F.Coordinates.layout in
     let told = g.met.F.Coordinates.coordinates.told c.args.value in
-    let fits : eqb (length c.args.out.now) l.count ≡ true = sym c.has-count.ensures ∙ c.if-not-has-count.false in
+    let fits : eqb (length c.args.out.now) l.count ≡ true = sym c.has_count.ensures ∙ c.if-not-has_count.false in
     let whole : length c.args.out.now ≡ l.count = eqb-true _ _ fits in
     rw fits (record {
       answer = refl;

@@ -13,7 +13,7 @@ loop-line-preserved c =
     let i = c.loop-line.line-index in
     let all = string_bytes c.loop-line.all in
     let this = line_text (get_or xs i (Pass 0 0)) ++ 10 ∷ [] in
-    let more : string_bytes c.push-str.new.self ≡ all ++ this = c.in-ok-push-str.ensures.bytes ∙ ap (λ (o : List ℕ). all ++ o) (c.deref.ensures ∙ c.in-ok-text.ensures) in
+    let more : string_bytes c.push_str.new.self ≡ all ++ this = c.in_ok-push_str.ensures.bytes ∙ ap (λ (o : List ℕ). all ++ o) (c.deref.ensures ∙ c.in_ok-text.ensures) in
     ap (λ (o : List ℕ). o ++ page_text (drop (i + 1) xs)) more
     ∙ append_assoc all this (page_text (drop (i + 1) xs))
     ∙ ap (λ (o : List ℕ). all ++ o) (sym (at_drop_more page_text xs i (Pass 0 0) c.loop-line-test.true))

@@ -6,8 +6,8 @@ use Rattle.playback.specs.Lines.{started_lines, Played}
 use Rattle.playback.proofs.Reports.{lines_by_meaning, played}
 use Rattle.playback.proofs.shift.play.Goals as goal
 
-pub returns-in-ok-lines : goal.returns-in-ok-lines
-returns-in-ok-lines g c =
+pub returns-in_ok-lines : goal.returns-in_ok-lines
+returns-in_ok-lines g c =
     let a = g.F.Field.arithmetic in
     let l = g.F.Coordinates.layout in
     let w = g.F.CodedField.bits in
@@ -16,11 +16,11 @@ returns-in-ok-lines g c =
     let tape = c.in-Ok.parts.tape.now in
     let parts : Parts = record { key = a.meaning v.key; pads = pads; tape = tape } in
     let begun : Begun a l w c.args.input.now (Some v) pads tape = subst (λ o. Begun a l w c.args.input.now o pads tape) c.in-Some.is c.in-Ok.ensures in
-    let lines = c.in-ok-lines.ensures.lines ∙ lines_by_meaning a l w v pads tape begun.0 in
+    let lines = c.in_ok-lines.ensures.lines ∙ lines_by_meaning a l w v pads tape begun.0 in
     record {
       lines = lines ∙ sym (ap (started_lines a l w) begun.1);
       whole-tape = λ p e.
           let same : parts ≡ p = (let q : Path (Result Parts Fault) (Ok parts) (Ok p) = sym begun.1 ∙ e in cc) in
-          subst (λ x. Played a l w x (vec_items c.in-ok-lines.lines)) same
-          (subst (Played a l w parts) (sym lines) (played a l w parts c.in-ok-lines.ensures.whole));
+          subst (λ x. Played a l w x (vec_items c.in_ok-lines.lines)) same
+          (subst (Played a l w parts) (sym lines) (played a l w parts c.in_ok-lines.ensures.whole));
     }

@@ -6,7 +6,7 @@ use Rattle.polynomial.proofs.lanes.product_sums.Goals as goal
 pub returns : goal.returns
 returns c = record {
   same = λ q e.
-      ap (remainders q) c.sums-of-products.ensures.is ∙ sym (times_remainders q c.fold16.result c.fold16-by-product.result)
-      ∙ ap₂ (polynomial_times q) (c.fold16.ensures.same q e) (c.fold16-by-product.ensures.same q e);
-  small = c.sums-of-products.ensures.small;
+      ap (remainders q) c.sums_of_products.ensures.is ∙ sym (times_remainders q c.fold16.result c.fold16_by_product.result)
+      ∙ ap₂ (polynomial_times q) (c.fold16.ensures.same q e) (c.fold16_by_product.ensures.same q e);
+  small = c.sums_of_products.ensures.small;
 }

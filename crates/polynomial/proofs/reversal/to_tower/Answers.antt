@@ -8,6 +8,6 @@ pub returns : goal.returns
 returns g c =
     let q = g.M.Modulus.q in
     record {
-      value = ap₂ ◌++◌ c.four.ensures c.four-2.ensures ∙ ap (eight_remainders q) c.bit-reversed-list.ensures ∙ reversed_remainders q c.args.x.kept (search rules);
+      value = ap₂ ◌++◌ c.four.ensures c.four-2.ensures ∙ ap (eight_remainders q) c.bit_reversed-list.ensures ∙ reversed_remainders q c.args.x.kept (search rules);
       keeps = basis_to_tower q g.M.Modulus.root (λ x. x.kept);
     }

@@ -24,8 +24,8 @@ loop-group-preserved g c =
     let a = g.F.Field.arithmetic in
     let y = g.F.Coordinates.layout in
     let w = g.F.CodedField.bits in
-    let key = a.meaning c.powers-of-powers.result.first in
-    c.absorb-four-sum.ensures
+    let key = a.meaning c.powers_of-powers.result.first in
+    c.absorb_four-sum.ensures
     ∙ (λ i. four_absorbed a y w key (c.loop-group.invariant i) (c.cut.ensures i) (c.cut-in-loop-group.ensures i) (c.cut-in-loop-group-2.ensures i) (c.cut-in-loop-group-3.ensures i))
     ∙ sym (folded_next_four (absorbed a y w key) a.zero (λ k. block c.args.size k c.args.body.now) c.loop-group.group)
 
@@ -34,4 +34,4 @@ returns g c =
     let a = g.F.Field.arithmetic in
     let all : c.loop-group.group ≡ c.args.count / 4 = omega arith in
     c.loop-group.invariant
-    ∙ (λ i. blocks_absorbed a g.F.Coordinates.layout g.F.CodedField.bits (a.meaning (c.powers-of-powers.ensures.of-key i)) c.args.size c.args.body.now (4 * all i))
+    ∙ (λ i. blocks_absorbed a g.F.Coordinates.layout g.F.CodedField.bits (a.meaning (c.powers_of-powers.ensures.of_key i)) c.args.size c.args.body.now (4 * all i))

@@ -16,29 +16,29 @@ use Rattle.tag.proofs.tags.make_tag.Goals as goal
 abbrev tag_meaning : (g : given.Over) → List ℕ → List ℕ → List ℕ → List ℕ
 tag_meaning g key pad body = tag_of g.F.Field.arithmetic g.F.Coordinates.layout g.F.CodedField.bits key pad body
 
-pub returns-in-err-count : goal.returns-in-err-count
-returns-in-err-count g c =
+pub returns-in_err-count : goal.returns-in_err-count
+returns-in_err-count g c =
     let laws = g.met.F.Field.laws in
     let coordinates = g.met.F.Coordinates.coordinates in
     let limits = g.met.F.CodedField.limits in
     let m = g.F.Field.arithmetic.meaning in
     let n = length c.args.body.now in
     let B = block_size_of g.F.CodedField.bits g.F.Coordinates.layout.count in
-    let p = err_from_is_err_and c.from-residual.result c.from-residual.ensures.1 in
+    let p = err_from_is_err_and c.from_residual.result c.from_residual.ensures.1 in
     rw (p.1, p.2) (record {
-      answer = same_refusal (block_count B n) (tag_meaning g (m c.args.key) (m c.args.pad) c.args.body.now) (fault 5 Call 0) (leb 2 n) (leb n 440) _ (sym c.in-err-count.ensures);
+      answer = same_refusal (block_count B n) (tag_meaning g (m c.args.key) (m c.args.pad) c.args.body.now) (fault 5 Call 0) (leb 2 n) (leb n 440) _ (sym c.in_err-count.ensures);
       weighed-sum = tag_is_weighed_sum laws coordinates limits;
       few-keys = few_keys_fit_two_bodies laws coordinates limits;
     })
 
-pub absorb-groups-sum-requires : goal.absorb-groups-sum-requires
-absorb-groups-sum-requires g c =
+pub absorb_groups-sum-requires : goal.absorb_groups-sum-requires
+absorb_groups-sum-requires g c =
     let m = g.F.Field.arithmetic.meaning in
     let n = length c.args.body.now in
     let B = block_size_of g.F.CodedField.bits g.F.Coordinates.layout.count in
     let two = block_size_from_two g.met.F.CodedField.limits in
-    let counted = both_given (block_count B n) (tag_meaning g (m c.args.key) (m c.args.pad) c.args.body.now) (fault 5 Call 0) (leb 2 n) (leb n 440) c.in-ok-count.count (sym c.in-ok-count.ensures) in
-    rw c.block-size-size.ensures (omega arith, sym counted.0)
+    let counted = both_given (block_count B n) (tag_meaning g (m c.args.key) (m c.args.pad) c.args.body.now) (fault 5 Call 0) (leb 2 n) (leb n 440) c.in_ok-count.count (sym c.in_ok-count.ensures) in
+    rw c.block_size-size.ensures (omega arith, sym counted.0)
 
 pub cut-requires : goal.cut-requires
 cut-requires g c =
@@ -46,16 +46,16 @@ cut-requires g c =
     let n = length c.args.body.now in
     let B = block_size_of g.F.CodedField.bits g.F.Coordinates.layout.count in
     let two = block_size_from_two g.met.F.CodedField.limits in
-    let counted = both_given (block_count B n) (tag_meaning g (m c.args.key) (m c.args.pad) c.args.body.now) (fault 5 Call 0) (leb 2 n) (leb n 440) c.in-ok-count.count (sym c.in-ok-count.ensures) in
+    let counted = both_given (block_count B n) (tag_meaning g (m c.args.key) (m c.args.pad) c.args.body.now) (fault 5 Call 0) (leb 2 n) (leb n 440) c.in_ok-count.count (sym c.in_ok-count.ensures) in
     let within : c.loop-at.at < block_count B n = rw counted.0 c.loop-at-test.true in
-    rw c.block-size-size.ensures (begins_within B c.loop-at.at n (omega arith) within)
+    rw c.block_size-size.ensures (begins_within B c.loop-at.at n (omega arith) within)
 
 pub loop-at-preserved : goal.loop-at-preserved
 loop-at-preserved g c =
     let a = g.F.Field.arithmetic in
     let step = absorbed a g.F.Coordinates.layout g.F.CodedField.bits (a.meaning c.args.key) in
     c.absorb-sum.ensures ∙ ap₂ step c.loop-at.invariant c.cut.ensures
-    ∙ sym (folded_next step a.zero (λ k. block c.block-size-size.result k c.args.body.now) c.loop-at.at)
+    ∙ sym (folded_next step a.zero (λ k. block c.block_size-size.result k c.args.body.now) c.loop-at.at)
 
 pub returns : goal.returns
 returns g c =
@@ -69,10 +69,10 @@ returns g c =
     let n = length body in
     let B = block_size_of g.F.CodedField.bits g.F.Coordinates.layout.count in
     let step = absorbed a g.F.Coordinates.layout g.F.CodedField.bits key in
-    let counted = both_given (block_count B n) (tag_meaning g key pad body) (fault 5 Call 0) (leb 2 n) (leb n 440) c.in-ok-count.count (sym c.in-ok-count.ensures) in
+    let counted = both_given (block_count B n) (tag_meaning g key pad body) (fault 5 Call 0) (leb 2 n) (leb n 440) c.in_ok-count.count (sym c.in_ok-count.ensures) in
     let end : c.loop-at.at ≡ block_count B n = omega (arith, counted.0) in
     let sum : a.meaning c.loop-at.sum ≡ fold step a.zero (blocks B body) =
-    c.loop-at.invariant ∙ ap₂ (λ (s k : ℕ). blocks_absorbed a g.F.Coordinates.layout g.F.CodedField.bits key s body k) c.block-size-size.ensures end in
+    c.loop-at.invariant ∙ ap₂ (λ (s k : ℕ). blocks_absorbed a g.F.Coordinates.layout g.F.CodedField.bits key s body k) c.block_size-size.ensures end in
     let value = c.add.ensures ∙ ap (λ t. a.plus t pad) (c.absorb.ensures ∙ ap (λ t. step t (length_block body)) sum) in
     record {
       answer = counted.1 ∙ ap Ok (sym value);

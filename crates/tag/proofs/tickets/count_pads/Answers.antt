@@ -3,4 +3,4 @@ use Rattle.tag.proofs.Reading.{encoded_size_positive}
 use Rattle.tag.proofs.tickets.count_pads.Goals as goal
 
 pub nonzero-div-count : goal.nonzero-div-count
-nonzero-div-count g c = rw c.encoded-size-size.ensures (encoded_size_positive g.met.F.CodedField.limits)
+nonzero-div-count g c = rw c.encoded_size-size.ensures (encoded_size_positive g.met.F.CodedField.limits)

@@ -8,8 +8,8 @@ use Rattle.tag.proofs.tickets.read_pad.Goals as goal
 pub slice-bounds-decode-end : goal.slice-bounds-decode-end
 slice-bounds-decode-end g c =
     let T = encoded_size_of g.F.CodedField.bits g.F.Coordinates.layout.count in
-    let within : T * c.args.number + T ≤ length c.args.pads.now = pad_within T _ c.in-ok-count.count c.args.number (sym c.in-ok-count.ensures) c.if-number-count.false in
-    let here : c.encoded-size-size.result * c.args.number + c.encoded-size-size.result ≤ length c.args.pads.now = rw c.encoded-size-size.ensures within in
+    let within : T * c.args.number + T ≤ length c.args.pads.now = pad_within T _ c.in_ok-count.count c.args.number (sym c.in_ok-count.ensures) c.if-number-count.false in
+    let here : c.encoded_size-size.result * c.args.number + c.encoded_size-size.result ≤ length c.args.pads.now = rw c.encoded_size-size.ensures within in
     omega arith
 
 pub returns : goal.returns
@@ -20,9 +20,9 @@ returns g c =
     let T = encoded_size_of w l.count in
     let pads = c.args.pads.now in
     let number = c.args.number in
-    let size = c.encoded-size-size.result in
-    let counted : pads_answer T (length pads) ≡ Ok c.in-ok-count.count = sym c.in-ok-count.ensures in
-    let within : ltb number c.in-ok-count.count ≡ true = lt-ltb _ _ c.if-number-count.false in
+    let size = c.encoded_size-size.result in
+    let counted : pads_answer T (length pads) ≡ Ok c.in_ok-count.count = sym c.in_ok-count.ensures in
+    let within : ltb number c.in_ok-count.count ≡ true = lt-ltb _ _ c.if-number-count.false in
     let part : size * number + size - size * number ≡ size = omega arith in
-    let bytes : Decoded a l w Pad (take T (drop (T * number) pads)) c.decode.result = rw (part, c.encoded-size-size.ensures) at c.decode.ensures.answer in
+    let bytes : Decoded a l w Pad (take T (drop (T * number) pads)) c.decode.result = rw (part, c.encoded_size-size.ensures) at c.decode.ensures.answer in
     rw (counted, within) (decoded_meaning a l w g.met.F.Coordinates.coordinates Pad _ c.decode.result bytes)

@@ -5,7 +5,7 @@ use Rattle.validator.proofs.Validator.make.Goals as goal
 pub returns : goal.returns
 returns g c =
     let a = g.F.Field.arithmetic in
-    let read = sym c.in-ok-read-key.ensures in
+    let read = sym c.in_ok-read_key.ensures in
     let made = c.blank.ensures in
     record {
       answer = ap done read;

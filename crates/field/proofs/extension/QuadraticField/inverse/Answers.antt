@@ -6,14 +6,14 @@ use Rattle.field.specs.ExtensionLaws.{extension_laws, extension_inverse, norm_of
 use Rattle.field.proofs.UniqueInverses.{inverse_not_zero}
 use Rattle.field.proofs.extension.QuadraticField.inverse.Goals as goal
 
-pub returns-in-err-factor : goal.returns-in-err-factor
-returns-in-err-factor g c =
+pub returns-in_err-factor : goal.returns-in_err-factor
+returns-in_err-factor g c =
     let f = g.F.Field.arithmetic in
     let l = g.met.F.Field.laws in
-    let p = err_from_is_err_and c.from-residual.result c.from-residual.ensures.1 in
+    let p = err_from_is_err_and c.from_residual.result c.from_residual.ensures.1 in
     let norm : f.meaning c.add-norm.result ≡ norm_of l (λ x. x.a0) (λ x. x.a1) c.args.self =
-    c.add-norm.ensures ∙ ap₂ f.plus c.square-low.ensures (c.neg.ensures ∙ ap f.opposite (c.mul-by-non-residue.ensures ∙ ap (f.times f.non_residue) c.square-high.ensures)) in
-    rw (p.1, p.2) (norm_zero_means_zero l (λ x. x.a0) (λ x. x.a1) c.args.self (sym norm ∙ c.in-err-factor.ensures.0), c.in-err-factor.ensures.1)
+    c.add-norm.ensures ∙ ap₂ f.plus c.square-low.ensures (c.neg.ensures ∙ ap f.opposite (c.mul_by_non_residue.ensures ∙ ap (f.times f.non_residue) c.square-high.ensures)) in
+    rw (p.1, p.2) (norm_zero_means_zero l (λ x. x.a0) (λ x. x.a1) c.args.self (sym norm ∙ c.in_err-factor.ensures.0), c.in_err-factor.ensures.1)
 
 pub returns : goal.returns
 returns g c =

@@ -1,16 +1,16 @@
-use Rattle.std.proofs.Common.{◌≡◌, ℕ, ◌+◌, ◌<◌, ◌≤◌, length, take, Ok, Err, sym, ap, ◌∙◌, arith, take_all, eqb-true}
+use Rattle.std.proofs.Common.{◌≡◌, ◌+◌, ◌<◌, ◌≤◌, length, take, Ok, Err, sym, ap, ◌∙◌, arith, take_all, eqb-true}
 use Rattle.std.proofs.lemmas.Result.{err_from_is_err_and}
 use Rattle.field.proofs.Building.{first_out_of_range, all_in_range, one_more_in_range, one_more_set}
 use Rattle.field.proofs.powers.Coordinates.from_coefficients.Goals as goal
 
-pub returns-in-err-value : goal.returns-in-err-value
-returns-in-err-value g c =
+pub returns-in_err-value : goal.returns-in_err-value
+returns-in_err-value g c =
     let y = g.Self.Coordinates.layout in
-    let counted = sym c.has-count.ensures ∙ c.if-not-has-count.false in
-    let p = err_from_is_err_and c.from-residual.result c.from-residual.ensures.1 in
+    let counted = sym c.has_count.ensures ∙ c.if-not-has_count.false in
+    let p = err_from_is_err_and c.from_residual.result c.from_residual.ensures.1 in
     rw (p.1, p.2)
-    (first_out_of_range y c.args.coefficients.now counted c.loop-power.power c.loop-power-test.true c.in-err-value.ensures.0 c.loop-power.invariant.1
-    ∙ ap Err (sym c.in-err-value.ensures.1))
+    (first_out_of_range y c.args.coefficients.now counted c.loop-power.power c.loop-power-test.true c.in_err-value.ensures.0 c.loop-power.invariant.1
+    ∙ ap Err (sym c.in_err-value.ensures.1))
 
 pub loop-power-preserved : goal.loop-power-preserved
 loop-power-preserved g c =

@@ -1,4 +1,4 @@
-use Rattle.std.proofs.Common.{◌≡◌, ℕ, List, get_or, sym, ap, ◌∙◌}
+use Rattle.std.proofs.Common.{ℕ, List, get_or, sym, ap, ◌∙◌}
 use Rattle.field.specs.Interleaving.{even_place, odd_place}
 use Rattle.field.specs.ExtensionCoordinates.{pair_by_power, same_counts}
 use Rattle.field.proofs.powers.QuadraticCoordinates.coefficient.Goals as goal

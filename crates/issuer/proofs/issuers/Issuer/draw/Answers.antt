@@ -3,12 +3,12 @@ use Rattle.issuer.specs.Calls.{draw_answer}
 use Rattle.issuer.proofs.History.{numbered_in_order}
 use Rattle.issuer.proofs.issuers.Issuer.draw.Goals as goal
 
-pub returns-in-err-count : goal.returns-in-err-count
-returns-in-err-count g c =
+pub returns-in_err-count : goal.returns-in_err-count
+returns-in_err-count g c =
     let a = g.F.Field.arithmetic in
     let l = g.F.Coordinates.layout in
     let w = g.F.CodedField.bits in
-    let answer : c.from-residual.result ≡ draw_answer a l w c.args.self.now c.args.pads.now = search rules in
+    let answer : c.from_residual.result ≡ draw_answer a l w c.args.self.now c.args.pads.now = search rules in
     record {
       answer = answer;
       after = search rules;
@@ -20,7 +20,7 @@ returns-then-number-count g c =
     let a = g.F.Field.arithmetic in
     let l = g.F.Coordinates.layout in
     let w = g.F.CodedField.bits in
-    let answer : Err c.of-call.result ≡ draw_answer a l w c.args.self.now c.args.pads.now = search rules in
+    let answer : Err c.of_call.result ≡ draw_answer a l w c.args.self.now c.args.pads.now = search rules in
     record {
       answer = answer;
       after = search rules;

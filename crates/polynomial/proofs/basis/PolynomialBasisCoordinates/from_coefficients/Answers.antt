@@ -6,5 +6,5 @@ use Rattle.polynomial.proofs.basis.PolynomialBasisCoordinates.from_coefficients.
 pub returns : goal.returns
 returns g c =
     let xs = c.args.coefficients.now in
-    let below = subst (λ (n : ℕ). 8 ≤ n) c.count-below-power.ensures c.if-power-lt8.false in
+    let below = subst (λ (n : ℕ). 8 ≤ n) c.count_below-power.ensures c.if-power-lt8.false in
     eight_taken g.M.Modulus.q xs c.if-coefficients-ne8.false (subst (λ (q : ℕ). 8 ≤ below_before q xs) c.modulus.ensures below)

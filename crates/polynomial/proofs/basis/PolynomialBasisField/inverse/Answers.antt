@@ -21,24 +21,24 @@ returns-then-same g c =
     let m = g.M.Modulus in
     let kept : PolynomialBasis g.row.M.Denot → List ℕ = λ w. w.kept in
     let laws = polynomial_laws m.q m.bits m.root g.met.M.Modulus.prime kept (λ xs. (record { kept = xs; modulus = m.mark }, refl)) in
-    found laws c.args.self (record { kept = c.likely-inverse.result; modulus = c.marker.result }) c.mul.result c.one.result c.mul.ensures (c.if-same.ensures.0 refl) c.one.ensures
+    found laws c.args.self (record { kept = c.likely_inverse.result; modulus = c.marker.result }) c.mul.result c.one.result c.mul.ensures (c.if-same.ensures.0 refl) c.one.ensures
 
-pub returns-in-err-inverse : goal.returns-in-err-inverse
-returns-in-err-inverse g c =
+pub returns-in_err-inverse : goal.returns-in_err-inverse
+returns-in_err-inverse g c =
     let q = g.M.Modulus.q in
     let own = eight_remainders q c.args.self.kept in
-    let p = err_from_is_err_and c.from-residual.result c.from-residual.ensures.1 in
-    let back : own ≡ bit_reversal_of 3 ((long_tower q g.M.Modulus.root).meaning c.to-tower.result) = sym (reversed_twice own refl) ∙ ap (bit_reversal_of 3) (sym c.to-tower.ensures.value) in
-    rw (p.1, p.2) (back ∙ ap (bit_reversal_of 3) c.in-err-inverse.ensures.0, c.in-err-inverse.ensures.1)
+    let p = err_from_is_err_and c.from_residual.result c.from_residual.ensures.1 in
+    let back : own ≡ bit_reversal_of 3 ((long_tower q g.M.Modulus.root).meaning c.to_tower.result) = sym (reversed_twice own refl) ∙ ap (bit_reversal_of 3) (sym c.to_tower.ensures.value) in
+    rw (p.1, p.2) (back ∙ ap (bit_reversal_of 3) c.in_err-inverse.ensures.0, c.in_err-inverse.ensures.1)
 
 pub returns : goal.returns
 returns g c =
     let q = g.M.Modulus.q in let root = g.M.Modulus.root in
     let own = eight_remainders q c.args.self.kept in
-    let x = (long_tower q root).meaning c.to-tower.result in
-    let y = (long_tower q root).meaning c.in-ok-inverse.inverse in
+    let x = (long_tower q root).meaning c.to_tower.result in
+    let y = (long_tower q root).meaning c.in_ok-inverse.inverse in
     let kept : PolynomialBasis g.row.M.Denot → List ℕ = λ w. w.kept in
-    let back : own ≡ bit_reversal_of 3 x = sym (reversed_twice own refl) ∙ ap (bit_reversal_of 3) (sym c.to-tower.ensures.value) in (
-      λ h. c.in-ok-inverse.ensures.0 (c.to-tower.ensures.value ∙ ap (bit_reversal_of 3) h),
-      ap₂ (polynomial_times q) back c.to-polynomial.ensures.value ∙ reversed_inverse q root kept x y refl refl c.in-ok-inverse.ensures.1,
+    let back : own ≡ bit_reversal_of 3 x = sym (reversed_twice own refl) ∙ ap (bit_reversal_of 3) (sym c.to_tower.ensures.value) in (
+      λ h. c.in_ok-inverse.ensures.0 (c.to_tower.ensures.value ∙ ap (bit_reversal_of 3) h),
+      ap₂ (polynomial_times q) back c.to_polynomial.ensures.value ∙ reversed_inverse q root kept x y refl refl c.in_ok-inverse.ensures.1,
     )

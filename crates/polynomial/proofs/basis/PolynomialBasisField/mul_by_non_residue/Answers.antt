@@ -7,4 +7,4 @@ pub returns : goal.returns
 returns g c =
     let q = g.M.Modulus.q in
     let power = ap (λ (n : ℕ). 2 ^ n) c.width.ensures ∙ g.met.M.Modulus.prime.three_below_a_power in
-    of_one (polynomial_times q polynomial_x) q c.times-x.result c.args.self.kept (search rules) (search rules) (c.times-x.ensures q power)
+    of_one (polynomial_times q polynomial_x) q c.times_x.result c.args.self.kept (search rules) (search rules) (c.times_x.ensures q power)

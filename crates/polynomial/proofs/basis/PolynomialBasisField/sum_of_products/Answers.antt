@@ -12,7 +12,7 @@ pub returns : goal.returns
 returns g c =
     let q = g.M.Modulus.q in
     let power = ap (λ (n : ℕ). 2 ^ n) c.width.ensures ∙ g.met.M.Modulus.prime.three_below_a_power in
-    eight_of_eight q c.sum-of-products.result (search rules) ∙ c.sum-of-products.ensures q power
+    eight_of_eight q c.sum_of_products.result (search rules) ∙ c.sum_of_products.ensures q power
     ∙ ap₂ (polynomial_plus q)
     (ap₂ (polynomial_plus q) (read q c.args.a.kept c.args.k.kept (search rules) (search rules)) (read q c.args.b.kept c.args.l.kept (search rules) (search rules)))
     (ap₂ (polynomial_plus q) (read q c.args.c.kept c.args.m.kept (search rules) (search rules)) (read q c.args.d.kept c.args.n.kept (search rules) (search rules)))

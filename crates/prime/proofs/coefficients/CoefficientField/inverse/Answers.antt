@@ -9,4 +9,4 @@ returns-else-number-eq0 g c =
     let x = c.args.self.kept in
     let q = g.M.Modulus.q in
     let not-zero = rw c.number.ensures at c.if-number-eq0.false in
-    (λ h. not-zero (ap number h), ap just (times_mod_left x _ q ∙ times_mod_right x _ q ∙ c.inverse-entry.ensures.inverts not-zero))
+    (λ h. not-zero (ap number h), ap just (times_mod_left x _ q ∙ times_mod_right x _ q ∙ c.inverse_entry.ensures.inverts not-zero))
