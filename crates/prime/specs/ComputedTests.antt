@@ -1,5 +1,5 @@
 -- Tests that are computed over all numbers below a bound, or over all entries of a table, and what they show of each.
-use Rattle.std.specs.Prelude.{◌≡◌, Bool, true, false, ◌⊎◌, List, [], ◌∷◌, ℕ, zero, suc, ◌+◌, ◌<◌, T, length, get_or}
+use Rattle.std.specs.Prelude.{Bool, true, false, List, [], ◌∷◌, ℕ, zero, suc, ◌+◌, ◌<◌, T, length, get_or}
 use Rattle.std.proofs.Common.{sym, subst, ◌∙◌, inl, inr, add-zero, zero-add, add-suc, suc-add, le_of_suc-le-suc, not-suc-le-zero, eq-or-lt_of_le}
 
 abbrev pub both : Bool → Bool → Bool

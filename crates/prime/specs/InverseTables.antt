@@ -1,6 +1,6 @@
 -- One computed test over a whole table of inverses, one over all numbers below a modulus, and what they show.
 use Rattle.std.specs.Prelude.{◌≡◌, refl, Bool, true, false, not, ◌≢◌, List, ℕ, zero, suc, ◌+◌, ◌-◌, ◌*◌, ◌/◌, ◌%◌, ◌^◌, ◌<◌, ◌≤◌, T, eqb, ltb, length, get_or}
-use Rattle.std.proofs.Common.{sym, ap, subst, ◌∙◌, arith, eqb→eq, ltb→lt, T_not}
+use Rattle.std.proofs.Common.{sym, subst, ◌∙◌, eqb→eq, ltb→lt, T_not}
 use native.Mathlib.Nat.{mod-eq_of_lt}
 use Rattle.std.proofs.Math.Dec.{eqb_refl}
 use Rattle.prime.specs.Moduli.{PrimeModulus}

@@ -1,5 +1,5 @@
 -- The remainders by a prime modulus are a field.
-use Rattle.std.specs.Prelude.{◌≡◌, refl, ◌≢◌, List, [], ◌∷◌, ℕ, ◌+◌, ◌-◌, ◌*◌, ◌%◌, ◌<◌, ◌≤◌, length}
+use Rattle.std.specs.Prelude.{◌≡◌, refl, List, [], ◌∷◌, ℕ, ◌+◌, ◌-◌, ◌*◌, ◌%◌, ◌<◌, length}
 use Rattle.std.proofs.Common.{sym, ap, ◌∙◌, mod-lt, mod-eq_of_lt, add_comm, add_assoc, mul_comm, mul_assoc, mul-add, add-zero, mul-one, suc-ne-zero, arith}
 use Rattle.std.proofs.Math.Nat.{mod-mod, mod-add-mod, add-mod-mod, mod_self, suc_inj}
 use Rattle.field.specs.Fields.{Arithmetic, Laws, Meant}

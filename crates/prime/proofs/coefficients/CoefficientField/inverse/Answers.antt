@@ -1,5 +1,4 @@
-use mathlib.Core.Path.{◌≡◌, ap, ◌∙◌}
-use Prim.Native.Nat.{ℕ, ◌%◌}
+use mathlib.Core.Path.{ap, ◌∙◌}
 use Rattle.prime.specs.Residues.{just, number}
 use Rattle.prime.specs.Remainders.{times_mod_left, times_mod_right}
 use Rattle.prime.proofs.coefficients.CoefficientField.inverse.Goals as goal
