@@ -2,7 +2,7 @@
 use Rattle.std.specs.Prelude.{◌≡◌, ℕ, zero, suc, ◌%◌, ◌<◌, List, [], ◌∷◌, length, set, slice_index_or, slice_set, refl}
 use Rattle.std.proofs.Common.{sym, ap, ap₂, ◌∙◌, map-id, mod-lt, mod-eq_of_lt, length-set}
 use Rattle.std.specs.Simd.Lanes.{Each1}
-use Rattle.field.specs.Fields.{Arithmetic, Laws}
+use Rattle.field.specs.Fields.{Laws}
 use Rattle.field.specs.Extensions.{Tower, tower}
 use Rattle.field.specs.Coordinates.{CoordinateLaws}
 use Rattle.field.proofs.UniqueInverses.{tower_laws}

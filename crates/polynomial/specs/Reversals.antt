@@ -1,6 +1,6 @@
 -- Bit reversal undoes itself, and keeps sums and products.
-use Rattle.std.specs.Prelude.{◌≡◌, ℕ, ◌+◌, ◌*◌, ◌%◌, List, [], ◌∷◌, ◌++◌, length, slice_index, refl}
-use Rattle.std.proofs.Common.{sym, ap, ap₂, ◌∙◌, subst, mul-add, zero-mul, one-mul, zero-add, add-zero, arith}
+use Rattle.std.specs.Prelude.{◌≡◌, ℕ, ◌%◌, List, [], ◌∷◌, ◌++◌, length, slice_index, refl}
+use Rattle.std.proofs.Common.{sym, ap, ap₂, ◌∙◌, mul-add, zero-mul, one-mul, zero-add, add-zero, arith}
 use Rattle.std.proofs.Math.Nat.{mod-mod, mod-add-mod, add-mod-mod}
 use Rattle.std.specs.Simd.Lanes.{pick_l}
 use Rattle.field.specs.Fields.{Arithmetic}

@@ -131,8 +131,8 @@ fn product_sums(f: [u16; 8], h: [u16; 8], width: u16) -> u32x8
 
 // The places of the product, two products of each at a time.
 fn sums_of_products(x: u16x8, h: u16x8) -> u32x8
-    requires each1 { Each1 (λ n. n < 8192) x }
-    requires each1_2 { Each1 (λ n. n < 8192) h }
+    requires x_small { Each1 (λ n. n < 8192) x }
+    requires h_small { Each1 (λ n. n < 8192) h }
     ensures is { result ≡ places x h }
     ensures small { Each1 (λ n. n < 1073741824) result }
 {
@@ -162,8 +162,8 @@ fn sums_of_products(x: u16x8, h: u16x8) -> u32x8
 
 // At lane k, the products of lanes 2k and of lanes 2k + 1, added.
 fn pair_sums(a: u16x16, b: u16x16) -> u32x8
-    requires each1 { Each1 (λ n. n < 16384) a }
-    requires each1_2 { Each1 (λ n. n < 16384) b }
+    requires a_small { Each1 (λ n. n < 16384) a }
+    requires b_small { Each1 (λ n. n < 16384) b }
     ensures { result ≡ pair_sums (products a b) }
 {
     // The mask changes no lane. It shows the compiler that an instruction for signed numbers serves,

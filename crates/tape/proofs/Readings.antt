@@ -1,12 +1,12 @@
 -- A whole reading: what is read one after the other is what the tape holds.
-use Rattle.std.proofs.Common.{◌≡◌, ℕ, ◌+◌, ◌-◌, ◌/◌, ◌%◌, ◌<◌, ◌≤◌, Bool, true, false, cond, eqb, ltb, leb, List, [], ◌∷◌, ◌++◌, length, take, drop, Some, None, Ok, Err, Option, Result, sym, refl, ap, ◌∙◌, subst, ap₂, append_assoc, append-nil, arith, length-append, length-drop, take_all, take_at, take-add, drop_at}
+use Rattle.std.proofs.Common.{◌≡◌, ℕ, ◌+◌, ◌-◌, ◌/◌, ◌%◌, ◌<◌, ◌≤◌, Bool, true, false, cond, eqb, ltb, leb, List, [], ◌∷◌, ◌++◌, length, take, drop, Some, None, Ok, Err, Option, Result, sym, refl, ap, ◌∙◌, ap₂, append_assoc, append-nil, arith, length-append, length-drop, take_all, take_at, take-add, drop_at}
 use mathlib.Core.List.{append_cancel_left}
 use lib.Lanes.{Each1}
 use Rattle.std.proofs.lemmas.Bool.{leb-true}
 use Rattle.fault.specs.declared.Fault.{Fault}
 use Rattle.fault.specs.declared.Part.TheVariants.{Tape}
 use Rattle.fault.specs.Faults.{fault}
-use Rattle.tape.specs.Records.{Request, check, cancel, report, head, by_kind, next_record, record_bytes, place_after, Fits, Stands, EachFits, all_bytes, Holds, ReadingIsWhole}
+use Rattle.tape.specs.Records.{Request, check, cancel, report, head, by_kind, next_record, record_bytes, Fits, EachFits, all_bytes, Holds, ReadingIsWhole}
 use Rattle.tape.proofs.Standing.{read_stands, stands_read}
 
 each_fits_more : (rs : List Request) (r : Request) → EachFits rs → Fits r → EachFits (rs ++ r ∷ [])

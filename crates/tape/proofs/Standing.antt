@@ -6,7 +6,7 @@ use Rattle.std.proofs.lemmas.Bool.{ltb-true, ltb-false, leb-false, eqb-true, lt-
 use Rattle.fault.specs.declared.Fault.{Fault}
 use Rattle.fault.specs.declared.Part.TheVariants.{Tape}
 use Rattle.fault.specs.Faults.{fault}
-use Rattle.tape.specs.Records.{Request, check, cancel, report, head, by_kind, next_record, two_bytes, record_bytes, Fits, Stands, ReadsWhatStands}
+use Rattle.tape.specs.Records.{Request, check, cancel, report, head, by_kind, next_record, two_bytes, Stands, ReadsWhatStands}
 
 each_byte : (xs : List ℕ) (k : ℕ) → Each1 (λ n. n < 256) xs → get_or xs k 0 < 256
 each_byte [] k h = omega arith

@@ -11,13 +11,13 @@ loop-i-init c = refl
 room : (f : ℕ → ℕ) → ((k : ℕ) → f k < 2) → (s i byte : ℕ) → byte ≡ bits_from f s i → i < 8 → byte < 128
 room f b s i byte e l = let n : i ≤ 7 = omega arith in rw e (lt_of_lt_of_le (bits_lt f b s i) (pow_mono n))
 
-pub overflow-mul-byte : goal.overflow-mul-byte
-overflow-mul-byte c =
+pub overflow_mul-byte : goal.overflow_mul-byte
+overflow_mul-byte c =
     let r = room _ (bit_at_bit c.args.width c.args.numbers.now) _ _ c.loop-i.byte c.loop-i.invariant c.loop-i-test.true in
     record { fits = omega arith }
 
-pub overflow-add-byte : goal.overflow-add-byte
-overflow-add-byte c =
+pub overflow_add-byte : goal.overflow_add-byte
+overflow_add-byte c =
     let r = room _ (bit_at_bit c.args.width c.args.numbers.now) _ _ c.loop-i.byte c.loop-i.invariant c.loop-i-test.true in
     record { fits = omega (arith, c.bit.ensures, bit_at_bit c.args.width c.args.numbers.now (8 * c.args.place + c.loop-i.i)) }
 

@@ -23,8 +23,8 @@ returns g c =
     let given : decoded l w part bytes ≡ Ok xs = decoded_by_answer l w part bytes whole answer in
     let row : c.read_coefficients.new.out ≡ xs = rw (c.width.ensures, long) at (read.value refl) in
     let built = built_has a l xs (decoded_coefficients l w limits part bytes xs given) c.from_coefficients.result (subst (λ t. Built a l t c.from_coefficients.result) row c.from_coefficients.ensures) in
-    let below : Below 256 bytes = λ i h. (c.type-inv.bytes i).fits in
+    let below : Below 256 bytes = λ i h. (c.type_inv.bytes i).fits in
     rw built.1 (record {
       answer = given ∙ ap Ok (sym built.2);
-      encodes-back = ap (encoded w l.count) built.2 ∙ decoded_encodes l w limits part bytes xs below given;
+      encodes_back = ap (encoded w l.count) built.2 ∙ decoded_encodes l w limits part bytes xs below given;
     })

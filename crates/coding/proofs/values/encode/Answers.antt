@@ -15,7 +15,7 @@ returns-then-out-encoded_size g c =
       answer = rw other (ap Err c.of_call.ensures);
       bytes = rw other;
       one_number = one_number l w g.met.F.CodedField.limits _ (g.met.F.Coordinates.coordinates.told c.args.value);
-      decodes-back = λ part. encoded_decodes l w g.met.F.CodedField.limits part _ (g.met.F.Coordinates.coordinates.told c.args.value);
+      decodes_back = λ part. encoded_decodes l w g.met.F.CodedField.limits part _ (g.met.F.Coordinates.coordinates.told c.args.value);
     }
 
 pub returns : goal.returns
@@ -34,5 +34,5 @@ returns g c =
       answer = rw same;
       bytes = rw same (rw (c.width.ensures, whole, row) at c.write_bits.ensures);
       one_number = one_number l w limits xs told;
-      decodes-back = λ part. encoded_decodes l w limits part xs told;
+      decodes_back = λ part. encoded_decodes l w limits part xs told;
     }

@@ -19,7 +19,7 @@ returns-in_ok-lines g c =
     let lines = c.in_ok-lines.ensures.lines ∙ lines_by_meaning a l w v pads tape begun.0 in
     record {
       lines = lines ∙ sym (ap (started_lines a l w) begun.1);
-      whole-tape = λ p e.
+      whole_tape = λ p e.
           let same : parts ≡ p = (let q : Path (Result Parts Fault) (Ok parts) (Ok p) = sym begun.1 ∙ e in cc) in
           subst (λ x. Played a l w x (vec_items c.in_ok-lines.lines)) same
           (subst (Played a l w parts) (sym lines) (played a l w parts c.in_ok-lines.ensures.whole));

@@ -34,7 +34,7 @@ returns-in-Ok-None g c =
           c.in_ok-push-2.ensures.items ∙ ap (λ (n : ℕ). vec_items l.lines ++ End n ∷ []) count
           ∙ ended g.F.Field.arithmetic g.F.Coordinates.layout g.F.CodedField.bits c.args.pads.now c.args.tape.now c.args.validator l.reader.at l.validator (vec_items l.lines) l.invariant.1
           (sym (found ∙ ap (λ (t : List ℕ). next_record t l.reader.at) l.invariant.0));
-      whole = records_are_whole c.args.tape.now (bytes_fit c.args.tape.now (λ i. (c.type-inv.tape i).fits));
+      whole = records_are_whole c.args.tape.now (bytes_fit c.args.tape.now (λ i. (c.type_inv.tape i).fits));
     }
 
 pub returns-in-Err : goal.returns-in-Err
@@ -50,7 +50,7 @@ returns-in-Err g c =
           ∙ ap (λ (n : ℕ). vec_items l.lines ++ Refused n c.in-Err.fault ∷ End n ∷ []) count
           ∙ faulted g.F.Field.arithmetic g.F.Coordinates.layout g.F.CodedField.bits c.args.pads.now c.args.tape.now c.args.validator l.reader.at l.validator (vec_items l.lines) l.invariant.1
           c.in-Err.fault (sym (found ∙ ap (λ (t : List ℕ). next_record t l.reader.at) l.invariant.0));
-      whole = records_are_whole c.args.tape.now (bytes_fit c.args.tape.now (λ i. (c.type-inv.tape i).fits));
+      whole = records_are_whole c.args.tape.now (bytes_fit c.args.tape.now (λ i. (c.type_inv.tape i).fits));
     }
 
 pub loop-item-smaller : goal.loop-item-smaller

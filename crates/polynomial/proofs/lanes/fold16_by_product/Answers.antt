@@ -3,8 +3,8 @@ use Rattle.std.proofs.lemmas.Simd.{below_from_Fits}
 use Rattle.polynomial.proofs.Folds.{lanes_by_product_are, power_least, folded_same, folded_small}
 use Rattle.polynomial.proofs.lanes.fold16_by_product.Goals as goal
 
-pub overflow-sub-result : goal.overflow-sub-result
-overflow-sub-result c = power_least c.args.width c.requires.0 c.requires.1
+pub overflow_sub-result : goal.overflow_sub-result
+overflow_sub-result c = power_least c.args.width c.requires.0 c.requires.1
 
 pub returns : goal.returns
 returns c =

@@ -5,8 +5,8 @@ use Rattle.polynomial.proofs.Folds.{power_least, multiple_is}
 use Rattle.polynomial.proofs.Remainders.{opposite_remainders}
 use Rattle.polynomial.proofs.lanes.opposite.Goals as goal
 
-pub overflow-sub-multiple : goal.overflow-sub-multiple
-overflow-sub-multiple c = power_least c.args.width c.requires.0 c.requires.1
+pub overflow_sub-multiple : goal.overflow_sub-multiple
+overflow_sub-multiple c = power_least c.args.width c.requires.0 c.requires.1
 
 pub returns : goal.returns
 returns c = λ q e.

@@ -13,8 +13,8 @@ twice w n = folded w (folded w n)
 folded_twice : (w : ℕ) (xs r s : List ℕ) → r ≡ map (folded w) xs → s ≡ map (folded w) r → s ≡ map (twice w) xs
 folded_twice w xs r s p e = e ∙ ap (map (folded w)) p ∙ map-map (folded w) (folded w) xs
 
-pub overflow-cast-result : goal.overflow-cast-result
-overflow-cast-result c =
+pub overflow_cast-result : goal.overflow_cast-result
+overflow_cast-result c =
     let w = c.args.width in
     let s = c.args.s in
     let e = folded_twice w s _ _ c.fold32-once.ensures c.fold32-twice.ensures in
@@ -26,8 +26,8 @@ returns-then-width-ge10 c = λ q e.
     let w = c.args.width in
     ap (remainders q) (map-id c.fold32-twice.result) ∙ folded_same q w e _ _ c.fold32-twice.ensures ∙ folded_same q w e _ _ c.fold32-once.ensures
 
-pub overflow-cast-result-2 : goal.overflow-cast-result-2
-overflow-cast-result-2 c =
+pub overflow_cast-result-2 : goal.overflow_cast-result-2
+overflow_cast-result-2 c =
     let w = c.args.width in
     let s = c.args.s in
     let a = folded_twice w s _ _ c.fold32-once.ensures c.fold32-twice.ensures in

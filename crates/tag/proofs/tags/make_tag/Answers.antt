@@ -27,8 +27,8 @@ returns-in_err-count g c =
     let p = err_from_is_err_and c.from_residual.result c.from_residual.ensures.1 in
     rw (p.1, p.2) (record {
       answer = same_refusal (block_count B n) (tag_meaning g (m c.args.key) (m c.args.pad) c.args.body.now) (fault 5 Call 0) (leb 2 n) (leb n 440) _ (sym c.in_err-count.ensures);
-      weighed-sum = tag_is_weighed_sum laws coordinates limits;
-      few-keys = few_keys_fit_two_bodies laws coordinates limits;
+      weighed_sum = tag_is_weighed_sum laws coordinates limits;
+      few_keys = few_keys_fit_two_bodies laws coordinates limits;
     })
 
 pub absorb_groups-sum-requires : goal.absorb_groups-sum-requires
@@ -76,6 +76,6 @@ returns g c =
     let value = c.add.ensures ∙ ap (λ t. a.plus t pad) (c.absorb.ensures ∙ ap (λ t. step t (length_block body)) sum) in
     record {
       answer = counted.1 ∙ ap Ok (sym value);
-      weighed-sum = tag_is_weighed_sum laws coordinates limits;
-      few-keys = few_keys_fit_two_bodies laws coordinates limits;
+      weighed_sum = tag_is_weighed_sum laws coordinates limits;
+      few_keys = few_keys_fit_two_bodies laws coordinates limits;
     }

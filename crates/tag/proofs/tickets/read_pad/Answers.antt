@@ -5,8 +5,8 @@ use Rattle.tag.specs.Tickets.{pads_answer}
 use Rattle.tag.proofs.Reading.{decoded_meaning, pad_within}
 use Rattle.tag.proofs.tickets.read_pad.Goals as goal
 
-pub slice-bounds-decode-end : goal.slice-bounds-decode-end
-slice-bounds-decode-end g c =
+pub slice_bounds-decode-end : goal.slice_bounds-decode-end
+slice_bounds-decode-end g c =
     let T = encoded_size_of g.F.CodedField.bits g.F.Coordinates.layout.count in
     let within : T * c.args.number + T ≤ length c.args.pads.now = pad_within T _ c.in_ok-count.count c.args.number (sym c.in_ok-count.ensures) c.if-number-count.false in
     let here : c.encoded_size-size.result * c.args.number + c.encoded_size-size.result ≤ length c.args.pads.now = rw c.encoded_size-size.ensures within in

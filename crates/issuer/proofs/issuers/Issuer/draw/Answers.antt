@@ -12,7 +12,7 @@ returns-in_err-count g c =
     record {
       answer = answer;
       after = search rules;
-      stubs-are-numbered-in-order = numbered_in_order a l w c.args.self.now c.args.pads.now _ answer;
+      stubs_are_numbered_in_order = numbered_in_order a l w c.args.self.now c.args.pads.now _ answer;
     }
 
 pub returns-then-number-count : goal.returns-then-number-count
@@ -24,7 +24,7 @@ returns-then-number-count g c =
     record {
       answer = answer;
       after = search rules;
-      stubs-are-numbered-in-order = numbered_in_order a l w c.args.self.now c.args.pads.now _ answer;
+      stubs_are_numbered_in_order = numbered_in_order a l w c.args.self.now c.args.pads.now _ answer;
     }
 
 pub returns : goal.returns
@@ -36,5 +36,5 @@ returns g c =
     record {
       answer = answer;
       after = search rules;
-      stubs-are-numbered-in-order = numbered_in_order a l w c.args.self.now c.args.pads.now _ answer;
+      stubs_are_numbered_in_order = numbered_in_order a l w c.args.self.now c.args.pads.now _ answer;
     }

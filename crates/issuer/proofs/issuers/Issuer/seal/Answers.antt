@@ -25,8 +25,8 @@ returns-in_err-in_hand g c =
       answer = answer;
       after = sym s.after ∙ ap (λ n. after_seal a l w issuer n route text pads paper) same;
       paper = sym s.left ∙ ap (λ n. sealed_paper a l w issuer n route text pads paper) same;
-      sealed-ticket-is-right = subst (SealedRight a l w issuer c.args.stub.number route text pads paper) (sym p.1) tt;
-      no-number-is-sealed-twice = sealed_once a l w issuer c.args.stub.number route text pads paper _ answer;
+      sealed_ticket_is_right = subst (SealedRight a l w issuer c.args.stub.number route text pads paper) (sym p.1) tt;
+      no_number_is_sealed_twice = sealed_once a l w issuer c.args.stub.number route text pads paper _ answer;
     }
 
 pub returns-in-Ok : goal.returns-in-Ok
@@ -52,7 +52,7 @@ returns-in-Ok g c =
           subst (λ n. SealedRight a l w issuer n route text pads c.write_ticket.new.paper c.write_ticket.result) same
           (subst (SealedRight a l w issuer c.number-number.result route text pads c.write_ticket.new.paper) (sym c.write_ticket.ensures.answer)
           (sealed_right a l w issuer c.number-number.result route text pads paper _ _ c.in-Ok.ensures.answer c.write_ticket.ensures.bytes c.write_ticket.ensures.right));
-      no-number-is-sealed-twice = sealed_once a l w issuer c.args.stub.number route text pads paper _ answer;
+      no_number_is_sealed_twice = sealed_once a l w issuer c.args.stub.number route text pads paper _ answer;
     }
 
 pub returns-in-Err : goal.returns-in-Err
@@ -74,6 +74,6 @@ returns-in-Err g c =
       answer = answer;
       after = sym s.after ∙ ap (λ n. after_seal a l w issuer n route text pads paper) same;
       paper = sym s.left ∙ ap (λ n. sealed_paper a l w issuer n route text pads paper) same;
-      sealed-ticket-is-right = tt;
-      no-number-is-sealed-twice = sealed_once a l w issuer c.args.stub.number route text pads paper _ answer;
+      sealed_ticket_is_right = tt;
+      no_number_is_sealed_twice = sealed_once a l w issuer c.args.stub.number route text pads paper _ answer;
     }

@@ -1,4 +1,4 @@
-use Rattle.std.proofs.Common.{◌≡◌, ℕ, ◌<◌, set, ap, ◌∙◌, mod-eq_of_lt, rules}
+use Rattle.std.proofs.Common.{◌<◌, set, ap, ◌∙◌, mod-eq_of_lt, rules}
 use Rattle.polynomial.specs.Polynomials.{eight_remainders}
 use Rattle.polynomial.specs.PolynomialLaws.{eight_set}
 use Rattle.polynomial.proofs.basis.PolynomialBasisCoordinates.with_coefficient.Goals as goal
