@@ -1,13 +1,13 @@
 -- The steps of the loop that reads coefficients, and what building from them gives.
-use Rattle.std.proofs.Common.{◌≡◌, ℕ, ◌+◌, ◌-◌, ◌*◌, ◌/◌, ◌<◌, ◌≤◌, Bool, true, false, cond, eqb, ltb, List, [], ◌∷◌, ◌++◌, length, get_or, take, drop, set, Ok, Err, Result, sym, refl, ap, ◌∙◌, mul_comm, arith}
+use Rattle.std.proofs.Common.{◌≡◌, ℕ, ◌+◌, ◌*◌, ◌<◌, ◌≤◌, Bool, true, false, cond, eqb, ltb, List, [], ◌∷◌, ◌++◌, length, get_or, take, drop, set, Ok, Err, Result, sym, refl, ap, ◌∙◌, mul_comm, arith}
 use mathlib.Core.Path.{Path}
 use Rattle.std.proofs.lemmas.List.{take_more, take_more_set, take_all, ext_get_or, get_or-take, length-take-le}
 use Rattle.std.proofs.lemmas.List.Sums.{prefix_len-drop_yes, prefix_len-drop_no, prefix_len-drop_all}
 use Rattle.std.proofs.lemmas.Bool.{lt-ltb, le-ltb, eq-eqb}
 use Rattle.fault.specs.declared.Fault.{Fault}
 use Rattle.field.specs.Fields.{Arithmetic}
-use Rattle.field.specs.Coordinates.{Layout, Coefficients, CoordinateLaws, Built, below_before, coefficients}
-use Rattle.coding.specs.Bits.{bit_at, bits_from, regrouped}
+use Rattle.field.specs.Coordinates.{Layout, Coefficients, Built, below_before}
+use Rattle.coding.specs.Bits.{bit_at, bits_from}
 use Rattle.fault.specs.declared.Part.{Part}
 use Rattle.fault.specs.Faults.{fault}
 use Rattle.coding.specs.Encoding.{standing, padding, encoded_size_of, read_answer, decoded}

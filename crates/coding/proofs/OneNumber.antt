@@ -1,9 +1,9 @@
 -- A list of numbers of so many bits, read as one number.
-use Rattle.std.proofs.Common.{◌≡◌, ℕ, zero, suc, ◌+◌, ◌-◌, ◌*◌, ◌/◌, ◌^◌, ◌<◌, ◌≤◌, List, [], length, get_or, take, sym, refl, ap, ◌∙◌, ap₂, lt_of_lt_of_le, add-zero, mul_comm, mul-zero, zero-add, mul-suc, add-one, arith}
+use Rattle.std.proofs.Common.{◌≡◌, ℕ, zero, suc, ◌+◌, ◌-◌, ◌*◌, ◌^◌, ◌<◌, ◌≤◌, List, length, get_or, take, sym, ap, ◌∙◌, lt_of_lt_of_le, add-zero, mul_comm, mul-zero, zero-add, mul-suc, add-one, arith}
 use Rattle.std.specs.Int.Digits.{number_from_digits}
 use Rattle.std.proofs.lemmas.Int.Digits.{number_more}
 use Rattle.std.proofs.lemmas.List.{take_all}
-use Rattle.coding.specs.Bits.{bit_at, bits_from, regrouped}
+use Rattle.coding.specs.Bits.{bit_at, bits_from}
 use Rattle.coding.specs.Encoding.{Limits, encoded_size_of, encoded, EncodingIsOneNumber}
 use Rattle.coding.proofs.Regrouping.{bit_at_bit, bit_at_past, bits_lt, bits_split, bits_same, bits_unit, length_regrouped, bits_none, getD_regrouped, regrouped_bit}
 use Rattle.coding.proofs.RoundTrips.{Below, each_below, width_positive}

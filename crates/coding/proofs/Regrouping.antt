@@ -1,9 +1,8 @@
 -- Bits read as numbers, and lists of numbers cut anew.
-use Rattle.std.proofs.Common.{◌≡◌, ℕ, zero, suc, ◌+◌, ◌-◌, ◌*◌, ◌/◌, ◌%◌, ◌^◌, ◌<◌, ◌≤◌, ◌⊎◌, List, map, length, get_or, sym, refl, ap, ◌∙◌, subst, ap₂, inl, inr, ⊎_elim, le_refl, lt_of_lt_of_le, add-zero, le_of_lt, add_assoc, add-suc, mod-lt, mod-eq_of_lt, mul_assoc, mul_comm, div-lt_iff_lt-mul, add-mul, pow-suc, lt_of_not-le, le-div_iff_mul-le, zero-add, mul-one, div-one, add-one, arith, pow_pos, pow-add, shr-shr}
+use Rattle.std.proofs.Common.{◌≡◌, ℕ, zero, suc, ◌+◌, ◌-◌, ◌*◌, ◌/◌, ◌%◌, ◌^◌, ◌<◌, ◌≤◌, List, length, get_or, sym, refl, ap, ◌∙◌, ap₂, ⊎_elim, le_refl, add-zero, add_assoc, add-suc, mod-lt, mul_assoc, mul_comm, div-lt_iff_lt-mul, add-mul, pow-suc, le-div_iff_mul-le, zero-add, mul-one, div-one, add-one, arith, shr-shr}
 use native.Mathlib.Nat.{pow-zero, div-eq_of_lt, zero-div, zero-mod, div-add-mod, sub_self, sub-zero}
 use Rattle.std.proofs.lemmas.Bool.{cases_lt}
-use lib.Pow.{high, low, split, mod-pow-add}
-use Rattle.std.specs.List.{range_with_len}
+use lib.Pow.{high, low}
 use Rattle.std.proofs.lemmas.List.{ext_get_or, get_or_past}
 use Rattle.std.proofs.lemmas.List.FromFn.{length-map-range_with_len, get_or-map-range_with_len}
 use Rattle.std.proofs.lemmas.Nat.{div-mul-add, mod-mul-add, mul-add-lt}

@@ -1,14 +1,12 @@
 -- Encoding and decoding undo each other, and a block is known by its groups of bits.
-use Rattle.std.proofs.Common.{◌≡◌, ℕ, zero, suc, ◌+◌, ◌-◌, ◌*◌, ◌/◌, ◌%◌, ◌^◌, ◌<◌, ◌≤◌, Bool, true, false, cond, eqb, ltb, ◌≢◌, List, [], ◌∷◌, length, get_or, Ok, Err, Result, sym, refl, ap, ◌∙◌, subst, lt_of_lt_of_le, le_of_suc-le-suc, not-suc-le-zero, mul_comm, arith}
+use Rattle.std.proofs.Common.{◌≡◌, ℕ, zero, suc, ◌+◌, ◌-◌, ◌*◌, ◌^◌, ◌<◌, ◌≤◌, Bool, true, false, cond, ltb, ◌≢◌, List, [], ◌∷◌, length, get_or, Ok, Err, Result, sym, refl, ap, ◌∙◌, subst, lt_of_lt_of_le, le_of_suc-le-suc, not-suc-le-zero, mul_comm, arith}
 use lib.Lanes.{Each1}
-use Rattle.std.specs.List.{prefix_len}
 use Rattle.std.proofs.lemmas.Bool.{eqb-true, eq-eqb, ne_eqb, lt-ltb, ltb-true}
 use Rattle.fault.specs.declared.Fault.{Fault}
 use Rattle.fault.specs.declared.Part.{Part}
-use Rattle.fault.specs.declared.Part.TheVariants.{Call}
 use Rattle.fault.specs.Faults.{fault}
 use Rattle.field.specs.Coordinates.{Layout, Coefficients, below_before, coefficients}
-use Rattle.coding.specs.Bits.{bit_at, bits_from, regrouped}
+use Rattle.coding.specs.Bits.{bit_at, regrouped}
 use Rattle.coding.specs.Encoding.{Limits, encoded_size_of, block_size_of, encoded, standing, padding, decoded, block_coefficients}
 use Rattle.coding.proofs.Regrouping.{bit_at_bit, bit_at_past, bits_lt, bits_none, none_of_bits, length_regrouped, getD_regrouped, regrouped_bit, regrouped_back}
 

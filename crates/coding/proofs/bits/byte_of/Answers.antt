@@ -1,5 +1,5 @@
 use Rattle.std.proofs.Common.{◌≡◌, ℕ, ◌+◌, ◌*◌, ◌<◌, ◌≤◌, sym, refl, ◌∙◌, ap₂, lt_of_lt_of_le, arith, pow_mono}
-use Rattle.coding.specs.Bits.{bit_at, bits_from}
+use Rattle.coding.specs.Bits.{bits_from}
 use Rattle.coding.proofs.Regrouping.{bit_at_bit, bits_suc, bits_lt}
 use Rattle.coding.proofs.bits.byte_of.Goals as goal
 

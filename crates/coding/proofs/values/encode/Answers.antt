@@ -1,6 +1,5 @@
-use Rattle.std.proofs.Common.{◌≡◌, ℕ, ◌-◌, true, false, eqb, List, length, take, Err, sym, refl, ap, ◌∙◌, ap₂, arith, eq-eqb, ne_eqb}
-use Rattle.coding.specs.Bits.{regrouped}
-use Rattle.coding.specs.Encoding.{encoded_size_of, encoded}
+use Rattle.std.proofs.Common.{◌≡◌, ◌-◌, true, false, eqb, length, take, Err, sym, ap, ◌∙◌, arith, eq-eqb, ne_eqb}
+use Rattle.coding.specs.Encoding.{encoded_size_of}
 use Rattle.coding.proofs.RoundTrips.{encoded_decodes}
 use Rattle.coding.proofs.Decoding.{front_is}
 use Rattle.coding.proofs.OneNumber.{one_number}

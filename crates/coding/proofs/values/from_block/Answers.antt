@@ -4,7 +4,6 @@ use Rattle.fault.specs.declared.Fault.{Fault}
 use Rattle.field.specs.Coordinates.{Layout, coefficients}
 use Rattle.coding.specs.Encoding.{Limits, block_coefficients}
 use Rattle.coding.proofs.RoundTrips.{block_is_coefficients, coefficients_taken}
-use Rattle.coding.proofs.values.from_block.Given as given
 use Rattle.coding.proofs.values.from_block.Goals as goal
 
 -- the groups of bits of a block are taken as coefficients

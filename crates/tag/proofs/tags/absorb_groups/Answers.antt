@@ -8,16 +8,16 @@ within : (B n count group at : ℕ) → 0 < B → count ≡ block_count B n → 
 within B n count group at pos e h last = begins_within B at n pos (omega arith)
 
 pub cut-requires : goal.cut-requires
-cut-requires g c = within c.args.size (length c.args.body.now) c.args.count c.loop-group.group _ c.requires.0 c.requires.1 c.loop-group-test.true (omega arith)
+cut-requires g c = within c.args.size (length c.args.body.now) c.args.count c.loop-group.group _ c.requires.size_nonzero c.requires.count_value c.loop-group-test.true (omega arith)
 
 pub cut-requires-in-loop-group : goal.cut-requires-in-loop-group
-cut-requires-in-loop-group g c = within c.args.size (length c.args.body.now) c.args.count c.loop-group.group _ c.requires.0 c.requires.1 c.loop-group-test.true (omega arith)
+cut-requires-in-loop-group g c = within c.args.size (length c.args.body.now) c.args.count c.loop-group.group _ c.requires.size_nonzero c.requires.count_value c.loop-group-test.true (omega arith)
 
 pub cut-requires-in-loop-group-2 : goal.cut-requires-in-loop-group-2
-cut-requires-in-loop-group-2 g c = within c.args.size (length c.args.body.now) c.args.count c.loop-group.group _ c.requires.0 c.requires.1 c.loop-group-test.true (omega arith)
+cut-requires-in-loop-group-2 g c = within c.args.size (length c.args.body.now) c.args.count c.loop-group.group _ c.requires.size_nonzero c.requires.count_value c.loop-group-test.true (omega arith)
 
 pub cut-requires-in-loop-group-3 : goal.cut-requires-in-loop-group-3
-cut-requires-in-loop-group-3 g c = within c.args.size (length c.args.body.now) c.args.count c.loop-group.group _ c.requires.0 c.requires.1 c.loop-group-test.true (omega arith)
+cut-requires-in-loop-group-3 g c = within c.args.size (length c.args.body.now) c.args.count c.loop-group.group _ c.requires.size_nonzero c.requires.count_value c.loop-group-test.true (omega arith)
 
 pub loop-group-preserved : goal.loop-group-preserved
 loop-group-preserved g c =
