@@ -1,5 +1,5 @@
 -- Four blocks taken in at once.
-use Rattle.std.proofs.Common.{◌≡◌, ℕ, List, [], ◌∷◌, map, sym, refl, ap, ◌∙◌, ap₂}
+use Rattle.std.proofs.Common.{◌≡◌, ℕ, List, [], ◌∷◌, refl}
 use mathlib.Core.Path.{fst_path}
 use Rattle.field.specs.Fields.{Arithmetic, Laws, four_products}
 use Rattle.field.specs.Coordinates.{Layout, CoordinateLaws}

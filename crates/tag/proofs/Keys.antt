@@ -1,5 +1,5 @@
 -- Reading a key: what decoding gives, tested for zero.
-use Rattle.std.proofs.Common.{◌≡◌, ℕ, Bool, true, false, cond, ◌≢◌, List, Ok, Err, Result, sym, ap, ◌∙◌}
+use Rattle.std.proofs.Common.{◌≡◌, ℕ, Bool, true, false, cond, ◌≢◌, List, Ok, Err, Result, ap, ◌∙◌}
 use Rattle.fault.specs.declared.Fault.{Fault}
 use Rattle.fault.specs.declared.Part.TheVariants.{Key}
 use Rattle.fault.specs.Faults.{fault}

@@ -1,5 +1,5 @@
 -- Answers that test a body's length, whatever they give where it is right.
-use Rattle.std.proofs.Common.{◌≡◌, ℕ, Bool, true, false, cond, leb, Ok, Err, Result, sym, refl, ap, ◌∙◌, arith}
+use Rattle.std.proofs.Common.{◌≡◌, ℕ, Bool, true, false, cond, Ok, Err, Result, refl, ap, arith}
 use mathlib.Core.Path.{Path}
 use Rattle.fault.specs.declared.Fault.{Fault}
 

@@ -9,7 +9,6 @@ use Rattle.fault.specs.Faults.{fault}
 use Rattle.field.specs.Fields.{Arithmetic}
 use Rattle.field.specs.Coordinates.{Layout, CoordinateLaws}
 use Rattle.coding.specs.Encoding.{Limits, encoded_size_of, decoded, Decoded}
-use Rattle.coding.proofs.RoundTrips.{width_positive}
 use Rattle.tag.specs.Bodies.{Opened, parts, opened, if_length}
 use Rattle.tag.specs.Tags.{tag_of}
 use Rattle.tag.specs.Tickets.{Answers, then, pads_answer, same_numbers, tag_answer, pad_answer, ticket_body, ticket_tag, ticket_answer}

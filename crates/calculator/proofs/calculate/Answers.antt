@@ -2,8 +2,8 @@ use Rattle.std.proofs.Common.{rules}
 use Rattle.calculator.proofs.Examples.{worked_examples}
 use Rattle.calculator.proofs.calculate.Goals as goal
 
-pub returns-in_err-invert : goal.returns-in_err-invert
-returns-in_err-invert g c = record { answer = search rules; examples = worked_examples }
+pub returns-in_err-invert-in-Inverse : goal.returns-in_err-invert-in-Inverse
+returns-in_err-invert-in-Inverse g c = record { answer = search rules; examples = worked_examples }
 
 pub returns-in-Add : goal.returns-in-Add
 returns-in-Add g c = record { answer = search rules; examples = worked_examples }
@@ -17,8 +17,8 @@ returns-in-Mul g c = record { answer = search rules; examples = worked_examples 
 pub returns-in-Square : goal.returns-in-Square
 returns-in-Square g c = record { answer = search rules; examples = worked_examples }
 
-pub returns-in_ok-invert : goal.returns-in_ok-invert
-returns-in_ok-invert g c = record { answer = search rules; examples = worked_examples }
+pub returns-in_ok-invert-in-Inverse : goal.returns-in_ok-invert-in-Inverse
+returns-in_ok-invert-in-Inverse g c = record { answer = search rules; examples = worked_examples }
 
 pub returns-in-NonResidue : goal.returns-in-NonResidue
 returns-in-NonResidue g c = record { answer = search rules; examples = worked_examples }

@@ -1,4 +1,4 @@
-use Rattle.std.proofs.Common.{◌≡◌, ℕ, ◌/◌, ◌%◌, true, leb, List, length, Ok, sym, ap, ◌∙◌, arith, le-leb}
+use Rattle.std.proofs.Common.{◌≡◌, ℕ, ◌/◌, ◌%◌, true, leb, List, length, Ok, sym, ap, arith, le-leb}
 use Rattle.std.proofs.lemmas.List.{take_rest}
 use Rattle.tag.specs.Bodies.{Opened, head_number}
 use Rattle.tag.proofs.bodies.open_body.Goals as goal

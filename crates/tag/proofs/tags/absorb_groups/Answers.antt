@@ -1,4 +1,4 @@
-use Rattle.std.proofs.Common.{◌≡◌, ℕ, ◌+◌, ◌*◌, ◌/◌, ◌<◌, ◌≤◌, length, sym, ap, ◌∙◌, arith}
+use Rattle.std.proofs.Common.{◌≡◌, ℕ, ◌+◌, ◌*◌, ◌/◌, ◌<◌, ◌≤◌, length, sym, ◌∙◌, arith}
 use Rattle.tag.specs.Tags.{block, block_count, absorbed, four_absorbed, blocks_absorbed}
 use Rattle.tag.proofs.Steps.{begins_within, folded_next_four}
 use Rattle.tag.proofs.tags.absorb_groups.Goals as goal

@@ -1,10 +1,9 @@
-use Rattle.std.proofs.Common.{◌≡◌, ℕ, ◌+◌, ◌/◌, ◌%◌, ◌<◌, ◌≤◌, leb, List, [], ◌∷◌, length, Ok, Err, fold, sym, ap, ◌∙◌, ap₂, arith}
+use Rattle.std.proofs.Common.{◌≡◌, ℕ, ◌<◌, leb, List, length, Ok, fold, sym, ap, ◌∙◌, ap₂, arith}
 use Rattle.std.proofs.lemmas.Result.{err_from_is_err_and}
 use Rattle.fault.specs.declared.Part.TheVariants.{Call}
 use Rattle.fault.specs.Faults.{fault}
 use Rattle.coding.specs.Encoding.{block_size_of}
 use Rattle.tag.specs.Tags.{block, block_count, blocks, absorbed, blocks_absorbed, length_block, tag_of}
-use Rattle.tag.specs.Tickets.{tag_answer}
 use Rattle.tag.proofs.BlockMeanings.{block_size_from_two}
 use Rattle.tag.proofs.FewKeys.{few_keys_fit_two_bodies}
 use Rattle.tag.proofs.Lengths.{same_refusal, both_given}
@@ -38,7 +37,7 @@ absorb_groups-sum-requires g c =
     let B = block_size_of g.F.CodedField.bits g.F.Coordinates.layout.count in
     let two = block_size_from_two g.met.F.CodedField.limits in
     let counted = both_given (block_count B n) (tag_meaning g (m c.args.key) (m c.args.pad) c.args.body.now) (fault 5 Call 0) (leb 2 n) (leb n 440) c.in_ok-count.count (sym c.in_ok-count.ensures) in
-    rw c.block_size-size.ensures (omega arith, sym counted.0)
+    rw c.block_size-size.ensures (record { size_nonzero = omega arith; count_value = sym counted.0 })
 
 pub cut-requires : goal.cut-requires
 cut-requires g c =

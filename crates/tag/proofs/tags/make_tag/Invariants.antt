@@ -1,4 +1,4 @@
-use Rattle.std.proofs.Common.{◌≡◌, ◌≤◌}
+use Rattle.std.proofs.Common.{◌≡◌}
 use Rattle.tag.specs.Tags.{blocks_absorbed}
 use Rattle.tag.proofs.tags.make_tag.Given as goal
 

@@ -1,4 +1,3 @@
-use Rattle.std.proofs.Common.{arith}
 use Rattle.tag.proofs.Reading.{encoded_size_positive}
 use Rattle.tag.proofs.tickets.count_pads.Goals as goal
 

@@ -1,4 +1,4 @@
-use Rattle.std.proofs.Common.{◌≡◌, ℕ, ◌+◌, ◌-◌, ◌*◌, ◌<◌, ◌≤◌, true, ltb, List, length, take, drop, Ok, sym, ap, ◌∙◌, subst, ap₂, arith, lt-ltb}
+use Rattle.std.proofs.Common.{◌≡◌, ◌+◌, ◌-◌, ◌*◌, ◌≤◌, true, ltb, length, take, drop, Ok, sym, arith, lt-ltb}
 use Rattle.fault.specs.declared.Part.TheVariants.{Pad}
 use Rattle.coding.specs.Encoding.{encoded_size_of, Decoded}
 use Rattle.tag.specs.Tickets.{pads_answer}
