@@ -1,5 +1,5 @@
 -- The worked examples, by calculation.
-use Rattle.std.proofs.Common.{◌≡◌, ℕ, List, [], ◌∷◌, get_or, Err, refl, rules}
+use Rattle.std.proofs.Common.{◌≡◌, [], ◌∷◌, get_or, Err, refl, rules}
 use Rattle.fault.specs.declared.Part.{Part}
 use Rattle.fault.specs.Faults.{fault}
 use Rattle.coding.specs.Bits.{bit_at, bits_from, regrouped}

@@ -1,5 +1,5 @@
 -- The number of a ticket, as it is looked up and as a right ticket has it.
-use Rattle.std.proofs.Common.{◌≡◌, ℕ, ◌+◌, ◌-◌, ◌*◌, ◌/◌, ◌%◌, ◌<◌, ◌≤◌, Bool, true, false, cond, eqb, ltb, leb, List, length, get_or, take, drop, Ok, Err, Result, sym, refl, ap, ◌∙◌, ap₂, arith, ltb-true, le-ltb, lt-ltb, le-leb, leb-true}
+use Rattle.std.proofs.Common.{◌≡◌, ℕ, ◌+◌, ◌-◌, ◌*◌, ◌/◌, ◌<◌, ◌≤◌, Bool, true, false, cond, eqb, ltb, leb, List, length, get_or, take, drop, Ok, Err, Result, refl, ap, ◌∙◌, ap₂, arith, ltb-true, le-ltb, lt-ltb, le-leb, leb-true}
 use mathlib.Core.Path.{Path}
 use Rattle.std.proofs.lemmas.List.{get_or-take}
 use Rattle.fault.specs.declared.Fault.{Fault}

@@ -6,8 +6,8 @@ use Rattle.fault.specs.Faults.{fault}
 use Rattle.field.specs.Fields.{Arithmetic}
 use Rattle.field.specs.Coordinates.{Layout}
 use Rattle.coding.specs.Encoding.{encoded_size_of}
-use Rattle.tag.specs.Bodies.{Opened, parts}
-use Rattle.tag.specs.Tickets.{then, pads_answer, key_answer, ticket_body, ticket_answer}
+use Rattle.tag.specs.Bodies.{parts}
+use Rattle.tag.specs.Tickets.{then, pads_answer, ticket_body, ticket_answer}
 use Rattle.validator.specs.declared.Mark.{Mark}
 use Rattle.validator.specs.declared.Mark.TheVariants.{Blank, Ridden, Cancelled}
 use Rattle.validator.specs.declared.Event.{Event}

@@ -48,7 +48,7 @@ returns-in-Ok g c =
       answer = answer;
       after = sym s.after ∙ ap (λ n. after_seal a l w issuer n route text pads paper) same;
       paper = c.write_ticket.ensures.bytes ∙ sym s.left ∙ ap (λ n. sealed_paper a l w issuer n route text pads paper) same;
-      sealed-ticket-is-right =
+      sealed_ticket_is_right =
           subst (λ n. SealedRight a l w issuer n route text pads c.write_ticket.new.paper c.write_ticket.result) same
           (subst (SealedRight a l w issuer c.number-number.result route text pads c.write_ticket.new.paper) (sym c.write_ticket.ensures.answer)
           (sealed_right a l w issuer c.number-number.result route text pads paper _ _ c.in-Ok.ensures.answer c.write_ticket.ensures.bytes c.write_ticket.ensures.right));
