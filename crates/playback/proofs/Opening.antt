@@ -1,8 +1,7 @@
 -- An input that is long enough, taken apart as the code cuts it.
-use Rattle.std.proofs.Common.{◌≡◌, ℕ, ◌+◌, ◌-◌, ◌*◌, ◌≤◌, Bool, true, cond, leb, List, length, take, drop, Ok, Err, Result, sym, refl, ap, ◌∙◌, subst, arith, le-leb}
+use Rattle.std.proofs.Common.{◌≡◌, ℕ, ◌+◌, ◌-◌, ◌*◌, ◌≤◌, Bool, true, cond, List, length, take, drop, Ok, sym, refl, ap, ◌∙◌, subst, arith, le-leb}
 use mathlib.Core.Path.{Path}
 use Rattle.std.proofs.lemmas.List.{take_rest}
-use Rattle.fault.specs.declared.Fault.{Fault}
 use Rattle.playback.specs.Inputs.{Parts, pad_count, input_answer}
 
 all_tests : {A : Type 0} (b c d e f : Bool) (x y z : A) → b ≡ true → c ≡ true → d ≡ true → e ≡ true → f ≡ true → cond b (cond c (cond d (cond e (cond f x y) y) y) z) z ≡ x

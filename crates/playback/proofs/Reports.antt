@@ -1,11 +1,10 @@
 -- The lines of reports, over the calls before each.
-use Rattle.std.proofs.Common.{◌≡◌, ℕ, zero, suc, ◌+◌, ◌<◌, ◌≤◌, List, [], ◌∷◌, ◌++◌, map, length, get_or, take, Ok, Err, Result, sym, refl, ap, ◌∙◌, subst, ap₂, append_assoc, append-nil, arith}
-use mathlib.Core.Path.{Path}
+use Rattle.std.proofs.Common.{◌≡◌, ℕ, zero, suc, ◌+◌, ◌<◌, List, [], ◌∷◌, ◌++◌, map, length, get_or, take, Ok, Err, Result, sym, refl, ap, ◌∙◌, subst, ap₂, append_assoc, append-nil, arith}
 use Rattle.std.proofs.lemmas.List.{length-map, get_or_append_left}
 use Rattle.fault.specs.declared.Fault.{Fault}
 use Rattle.field.specs.Fields.{Arithmetic}
 use Rattle.field.specs.Coordinates.{Layout}
-use Rattle.tape.specs.Records.{Request, check, cancel, report, next_record, Fits, EachFits}
+use Rattle.tape.specs.Records.{Request, cancel, report, next_record, Fits, EachFits}
 use Rattle.validator.specs.declared.Validator.{Validator}
 use Rattle.validator.specs.Calls as calls
 use Rattle.validator.specs.Calls.{Call, blank, check_answer, after_check, after_cancel, cancel_answer, ticket_number_of, after}

@@ -21,7 +21,7 @@ loop-item-preserved g c =
       ap (λ r. r.now) c.next.ensures.tape ∙ l.invariant.0,
       turn g.F.Field.arithmetic g.F.Coordinates.layout g.F.CodedField.bits c.args.pads.now c.args.tape.now c.args.validator l.reader.at l.validator (vec_items l.lines) l.invariant.1
           l.reader.tape.now l.invariant.0 (request c.in-Ok-Some.item) found
-          _ c.next.ensures.at _ c.answer-line.ensures.state _ count _ c.answer-line.ensures.line _ c.in_ok-push.ensures.items,
+          _ c.next.ensures.at _ c.answer-line.ensures.state _ count _ c.answer-line.ensures.line _ c.in_ok-push-in-Ok-Some.ensures.items,
     )
 
 pub returns-in-Ok-None : goal.returns-in-Ok-None
@@ -31,7 +31,7 @@ returns-in-Ok-None g c =
     let found : Path (Result (Option Request) Fault) (Ok None) (next_record l.reader.tape.now l.reader.at) = search rules in
     record {
       lines =
-          c.in_ok-push-2.ensures.items ∙ ap (λ (n : ℕ). vec_items l.lines ++ End n ∷ []) count
+          c.in_ok-push-in-Ok-None.ensures.items ∙ ap (λ (n : ℕ). vec_items l.lines ++ End n ∷ []) count
           ∙ ended g.F.Field.arithmetic g.F.Coordinates.layout g.F.CodedField.bits c.args.pads.now c.args.tape.now c.args.validator l.reader.at l.validator (vec_items l.lines) l.invariant.1
           (sym (found ∙ ap (λ (t : List ℕ). next_record t l.reader.at) l.invariant.0));
       whole = records_are_whole c.args.tape.now (bytes_fit c.args.tape.now (λ i. (c.type_inv.tape i).fits));
@@ -44,8 +44,8 @@ returns-in-Err g c =
     let found : Path (Result (Option Request) Fault) (Err c.in-Err.fault) (next_record l.reader.tape.now l.reader.at) = c.in-Err.ensures.answer in
     record {
       lines =
-          c.in_ok-push-4.ensures.items
-          ∙ ap (λ (o : List Line). o ++ End (c.len-count.result + 1) ∷ []) c.in_ok-push-3.ensures.items
+          c.in_ok-push-in-Err-2.ensures.items
+          ∙ ap (λ (o : List Line). o ++ End (c.len-count.result + 1) ∷ []) c.in_ok-push-in-Err.ensures.items
           ∙ append_assoc (vec_items l.lines) (Refused (c.len-count.result + 1) c.in-Err.fault ∷ []) (End (c.len-count.result + 1) ∷ [])
           ∙ ap (λ (n : ℕ). vec_items l.lines ++ Refused n c.in-Err.fault ∷ End n ∷ []) count
           ∙ faulted g.F.Field.arithmetic g.F.Coordinates.layout g.F.CodedField.bits c.args.pads.now c.args.tape.now c.args.validator l.reader.at l.validator (vec_items l.lines) l.invariant.1
