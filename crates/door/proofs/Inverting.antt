@@ -1,10 +1,10 @@
 -- What is answered for an inverse, once the value is built.
-use Rattle.std.proofs.Common.{◌≡◌, ℕ, Bool, true, false, cond, eqb, ◌≢◌, List, Ok, Err, Result, sym, refl, ap, ◌∙◌, subst, ap₂}
+use Rattle.std.proofs.Common.{◌≡◌, ℕ, Bool, true, false, cond, eqb, ◌≢◌, List, Ok, Err, Result, refl, ap, ◌∙◌, ap₂}
 use Rattle.fault.specs.declared.Fault.{Fault}
 use Rattle.fault.specs.declared.Part.TheVariants.{Call}
 use Rattle.fault.specs.Faults.{fault}
 use Rattle.field.specs.Fields.{Arithmetic}
-use Rattle.field.specs.Coordinates.{Layout, Coefficients, CoordinateLaws, coefficients}
+use Rattle.field.specs.Coordinates.{Layout, CoordinateLaws, coefficients}
 use Rattle.tag.specs.Tickets.{then, same_numbers}
 use Rattle.tag.proofs.Reading.{same_numbers_same, same_numbers_other}
 use Rattle.door.specs.Calls.{fitting, inverse_answer, LeftInverse}

@@ -1,4 +1,4 @@
-use Rattle.std.proofs.Common.{◌≡◌, rules}
+use Rattle.std.proofs.Common.{rules}
 use Rattle.door.proofs.calls.product_of.Goals as goal
 
 pub returns : goal.returns
