@@ -3,7 +3,7 @@
 use Rattle.std.proofs.Common.{◌≡◌, suc, ◌<◌, ◌≤◌, max, ◌≢◌, List, [], ◌∷◌, length, sym, refl, ap, ◌∙◌, ap₂, le_of_suc-le-suc, not-suc-le-zero, suc-ne-zero, arith}
 use native.Mathlib.Nat.{suc_inj}
 use native.Mathlib.Decide.{dec_le}
-use Rattle.std.specs.List.{AllByRecursion as All}
+use Rattle.std.specs.List.{AllByRecursion}
 use Rattle.field.specs.Rings.{Operations}
 use Rattle.field.specs.Quotes.{quotes, ring}
 use Rattle.field.specs.FieldTheory.{IsField, no_zero_divisor, difference_zero}
@@ -11,7 +11,7 @@ use Rattle.field.specs.FieldTheory.{IsField, no_zero_divisor, difference_zero}
 -- the values are pairwise different
 abbrev pub PairwiseDifferent : {A : Type 0} → List A → Type 0
 PairwiseDifferent [] = Unit {0}
-PairwiseDifferent (x ∷ xs) = All (λ y. x ≢ y) xs × PairwiseDifferent xs
+PairwiseDifferent (x ∷ xs) = AllByRecursion (λ y. x ≢ y) xs × PairwiseDifferent xs
 
 module _ {A : Type 0} (o : Operations A) where
   -- the value of a polynomial at x
@@ -20,10 +20,10 @@ module _ {A : Type 0} (o : Operations A) where
   horner (c ∷ cs) x = o.plus c (o.times x (horner cs x))
 
   abbrev pub AllZero : List A → Type 0
-  AllZero cs = All (λ c. c ≡ o.zero) cs
+  AllZero cs = AllByRecursion (λ c. c ≡ o.zero) cs
 
   abbrev pub AllRoots : List A → List A → Type 0
-  AllRoots cs xs = All (λ x. horner cs x ≡ o.zero) xs
+  AllRoots cs xs = AllByRecursion (λ x. horner cs x ≡ o.zero) xs
 
   -- cs minus ds, coefficient by coefficient
   abbrev pub difference : List A → List A → List A
@@ -85,7 +85,7 @@ module _ {A : Type 0} (o : Operations A) (f : IsField o) where
         no_zero_divisor o f (x + neg t) (horner o (quotient t cs) x) (λ e. n (sym (difference_zero o f x t e)))
         (sym (quotient_right t x cs) ∙ ring o r (c ∷ at_x ∷ at-t ∷ []) (search quotes) refl ∙ ap₂ (λ u v. u + neg v) h root ∙ r.plus_opposite zero)
 
-    roots_stay : (xs : List A) → All (λ x. t ≢ x) xs → AllRoots o (c ∷ cs) xs → AllRoots o (quotient t cs) xs
+    roots_stay : (xs : List A) → AllByRecursion (λ x. t ≢ x) xs → AllRoots o (c ∷ cs) xs → AllRoots o (quotient t cs) xs
     roots_stay [] n h = tt
     roots_stay (x ∷ xs) n h = (root_stays x n.0 h.0, roots_stay xs n.1 h.1)
 

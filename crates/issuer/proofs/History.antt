@@ -1,6 +1,6 @@
 -- What every issuer keeps that calls lead to.
 use Rattle.std.proofs.Common.{◌≡◌, ℕ, zero, suc, ◌+◌, ◌*◌, ◌/◌, ◌<◌, ◌≤◌, Bool, true, false, cond, eqb, ltb, leb, ◌≢◌, List, [], ◌∷◌, ◌++◌, length, get_or, set, replicate, Ok, Err, Result, sym, refl, ap, ◌∙◌, subst, ⊎_elim, arith}
-use Rattle.std.specs.List.{range_with_len, AllByRecursion as All}
+use Rattle.std.specs.List.{range_with_len, AllByRecursion}
 use Rattle.std.proofs.lemmas.List.FromFn.{map-range_with_len_more}
 use Rattle.std.proofs.ByRecursion.{All-push, All-weaker}
 use Rattle.std.proofs.lemmas.List.{append-nil, length_push, length-set, length-replicate, get_or-replicate, get_or_past, get_or-set_same, get_or-set_other, map-id}
@@ -24,7 +24,7 @@ use Rattle.issuer.specs.Histories.{number_given, number_sealed, Different, Reach
 counting_next : (n : ℕ) → range_with_len 0 n ++ n ∷ [] ≡ range_with_len 0 (n + 1)
 counting_next n = ap (λ xs. xs ++ n ∷ []) (sym (map-id (range_with_len 0 n))) ∙ sym (map-range_with_len_more (λ x. x) 0 n n (omega arith)) ∙ map-id (range_with_len 0 (n + 1))
 
-different_push : (xs : List ℕ) (y : ℕ) → Different xs → All (λ x. x ≢ y) xs → Different (xs ++ y ∷ [])
+different_push : (xs : List ℕ) (y : ℕ) → Different xs → AllByRecursion (λ x. x ≢ y) xs → Different (xs ++ y ∷ [])
 different_push [] y d h = (tt, tt)
 different_push (x ∷ xs) y d h = (All-push (λ z. x ≢ z) xs y d.0 h.0, different_push xs y d.1 h.1)
 
@@ -59,7 +59,7 @@ module _ {V : Type 0} where
     numbered : given ≡ range_with_len 0 (length given)
     below : (n : ℕ) → n < length given → was_drawn (get_or issuer.marks n Undrawn) ≡ true
     above : (n : ℕ) → length given ≤ n → was_drawn (get_or issuer.marks n Undrawn) ≡ false
-    marks : All (λ n. get_or issuer.marks n Undrawn ≡ Sealed) sealed
+    marks : AllByRecursion (λ n. get_or issuer.marks n Undrawn ≡ Sealed) sealed
     different : Different sealed
 
   in_hand_drawn : (issuer : Issuer V) (n : ℕ) → is_in_hand issuer n ≡ true → (n < 1024) × (get_or issuer.marks n Undrawn ≡ Drawn)
@@ -80,10 +80,10 @@ module _ {V : Type 0} where
     here m h = get_or-set_same issuer.marks n m Undrawn (omega (arith, kept.whole))
 
     -- no number with another mark was sealed
-    not_sealed : at n ≢ Sealed → All (λ k. k ≢ n) sealed
+    not_sealed : at n ≢ Sealed → AllByRecursion (λ k. k ≢ n) sealed
     not_sealed ne = All-weaker (λ k. at k ≡ Sealed) (λ k. k ≢ n) (λ k s e. ne (ap at (sym e) ∙ s)) sealed kept.marks
 
-    still_sealed : (m : Mark) → at n ≢ Sealed → All (λ k. get_or (set issuer.marks n m) k Undrawn ≡ Sealed) sealed
+    still_sealed : (m : Mark) → at n ≢ Sealed → AllByRecursion (λ k. get_or (set issuer.marks n m) k Undrawn ≡ Sealed) sealed
     still_sealed m ne = All-weaker (λ k. at k ≡ Sealed) _ (λ k s. other m k (λ e. ne (ap at (sym e) ∙ s)) ∙ s) sealed kept.marks
 
     -- a number in hand gets another mark

@@ -7,7 +7,7 @@ use mathlib.Core.HLevel.{hedberg}
 use mathlib.Core.List.{reverse_aux}
 use native.Mathlib.Nat.{suc_inj}
 use lib.ListN.{length-map, length-reverse}
-use Rattle.std.specs.List.{AllByRecursion as All}
+use Rattle.std.specs.List.{AllByRecursion}
 use Rattle.std.proofs.lemmas.List.{reverse-reverse}
 use Rattle.field.specs.Fields.{Arithmetic, Laws}
 use Rattle.field.specs.Coordinates.{Layout, CoordinateLaws}
@@ -44,7 +44,7 @@ module _ {A : Type 0} (o : Operations A) (f : IsField o) where
       ∙ ring o r (k ∷ pad ∷ horner o cs k ∷ horner o ds k ∷ []) (search quotes depth 9) refl
 
 -- a property of every value, carried over to the values' images
-every_mapped : {V W : Type 0} (P : V → Type 0) (Q : W → Type 0) (g : V → W) → ((x : V) → P x → Q (g x)) → (xs : List V) → Every P xs → All Q (map g xs)
+every_mapped : {V W : Type 0} (P : V → Type 0) (Q : W → Type 0) (g : V → W) → ((x : V) → P x → Q (g x)) → (xs : List V) → Every P xs → AllByRecursion Q (map g xs)
 every_mapped P Q g h [] e = tt
 every_mapped P Q g h (x ∷ xs) e = (h x e.0, every_mapped P Q g h xs e.1)
 
