@@ -12,19 +12,19 @@ fn main() {
         return;
     }
     let folder = env::var_os("ENGINE_FOLDER").map_or_else(
-        || PathBuf::from(env!("CARGO_MANIFEST_DIR")).join("../target/staticlib"),
+        || PathBuf::from(env!("CARGO_MANIFEST_DIR")).join("../crates/door/out"),
         PathBuf::from,
     );
     let library = folder.join("libdoor.a");
     assert!(
         library.is_file(),
-        "the feature `engine` needs {}: build it with `rt staticlib door`",
+        "the feature `engine` needs {}: build it with `rt lib` in crates/door",
         library.display()
     );
     println!("cargo::rustc-link-search=native={}", folder.display());
     println!("cargo::rustc-link-lib=static=door");
     println!("cargo::rerun-if-changed={}", library.display());
-    let kit = env::var("KIT_FOLDER").expect("KIT_FOLDER: the folder of the kit's librattle_c.a");
+    let kit = env::var("KIT_FOLDER").expect("KIT_FOLDER: the folder of the kit's liblibc_c.a");
     println!("cargo::rustc-link-search=native={kit}");
-    println!("cargo::rustc-link-lib=static=rattle_c");
+    println!("cargo::rustc-link-lib=static=libc_c");
 }

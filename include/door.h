@@ -1,8 +1,8 @@
 /*
  * The ticket engine's calls for C.
  *
- * Build the library with `rt staticlib door`, and link target/staticlib/libdoor.a
- * and the kit's lib/librattle_c.a, in this order.
+ * Build the library with `rt lib` in crates/door, and link crates/door/out/libdoor.a
+ * and the kit's c/liblibc_c.a, in this order.
  *
  * Rows. A row is a pointer and a count of items. No pointer may be null, not even
  * with the count 0; `out` must not overlap another row; and rows must stay as they

@@ -48,7 +48,7 @@ pub record WorkedExamples : Type 0 where
   -- place 3 of a long tower is the coefficient of power 6, and place 5 that of power 5
   pub place_three_is_power_six : slice_index_or (bit_reversal_of 3 (range_with_len 0 8)) 6 0 ≡ 3
   pub place_five_is_power_five : slice_index_or (bit_reversal_of 3 (range_with_len 0 8)) 5 0 ≡ 5
-  -- X⁷-as-X³ = 2·X²
+  -- X⁷·X³ = 2·X²
   pub seventh_power_times_third : polynomial_times 4093 (0 ∷ 0 ∷ 0 ∷ 0 ∷ 0 ∷ 0 ∷ 0 ∷ 1 ∷ []) (0 ∷ 0 ∷ 0 ∷ 1 ∷ 0 ∷ 0 ∷ 0 ∷ 0 ∷ []) ≡ 0 ∷ 0 ∷ 2 ∷ 0 ∷ 0 ∷ 0 ∷ 0 ∷ 0 ∷ []
   -- 1, six zeros and 4092 encode at 4093 as 00 10, eight 00, 0F FC; the same ending in 0F FD is refused with 1 at place 7
   pub encoding_of_eight : encoded 12 8 (1 ∷ 0 ∷ 0 ∷ 0 ∷ 0 ∷ 0 ∷ 0 ∷ 4092 ∷ []) ≡ 0 ∷ 16 ∷ 0 ∷ 0 ∷ 0 ∷ 0 ∷ 0 ∷ 0 ∷ 0 ∷ 0 ∷ 15 ∷ 252 ∷ []

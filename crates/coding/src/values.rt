@@ -1,6 +1,6 @@
 //! Encoding and decoding of values, and the values that blocks stand for.
 ghost use Rattle.std.specs.Prelude.{◌≡◌, ℕ, ◌<◌, ◌≤◌, length, IfOk, if◌then◌else◌, Ok, Err, nat_eq};
-ghost use Rattle.fault.specs.declared.Part.{Part as the_part};
+ghost use Rattle.fault.specs.declared.Part.{Part as ThePart};
 ghost use Rattle.fault.specs.declared.Part.TheVariants.{Call};
 ghost use Rattle.fault.specs.Faults.{fault};
 ghost use Rattle.coding.specs.Encoding.{encoded_size_of, block_size_of, encoded, standing, decoded, read_answer, Decoded, EncodingIsOneNumber, block_coefficients, Blocked};
@@ -28,7 +28,7 @@ pub fn encode<F: CodedField>(value: F, out: &mut [u8]) -> Result<(), Fault>
     ensures answer { result ≡ (if nat_eq (length out.old) (encoded_size_of F.CodedField.bits F.Coordinates.layout.count) then Ok tt else Err (fault 3 Call 0)) }
     ensures bytes { out.new ≡ (if nat_eq (length out.old) (encoded_size_of F.CodedField.bits F.Coordinates.layout.count) then encoded F.CodedField.bits F.Coordinates.layout.count (F.Coordinates.layout.by_power (F.Field.arithmetic.meaning value)) else out.old) }
     ensures one_number { EncodingIsOneNumber F.CodedField.bits F.Coordinates.layout.count (F.Coordinates.layout.by_power (F.Field.arithmetic.meaning value)) }
-    ensures decodes_back { (part : the_part) → decoded F.Coordinates.layout F.CodedField.bits part (encoded F.CodedField.bits F.Coordinates.layout.count (F.Coordinates.layout.by_power (F.Field.arithmetic.meaning value))) ≡ Ok (F.Coordinates.layout.by_power (F.Field.arithmetic.meaning value)) }
+    ensures decodes_back { (part : ThePart) → decoded F.Coordinates.layout F.CodedField.bits part (encoded F.CodedField.bits F.Coordinates.layout.count (F.Coordinates.layout.by_power (F.Field.arithmetic.meaning value))) ≡ Ok (F.Coordinates.layout.by_power (F.Field.arithmetic.meaning value)) }
 {
     if out.len() != encoded_size::<F>() {
         return Err(Fault::of_call(Refusal::WrongSize));

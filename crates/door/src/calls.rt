@@ -3,7 +3,7 @@ ghost use Rattle.std.specs.Prelude.{◌≡◌, cond, length, Ok, Err};
 ghost use Rattle.fault.specs.declared.Part.TheVariants.{Call};
 ghost use Rattle.fault.specs.Faults.{fault};
 ghost use Rattle.door.specs.Calls.{fitting, product_answer, inverse_answer, LeftInverse, encode_answer, decode_answer, tag_bytes};
-ghost use Rattle.door.specs.Codes.{code as code_of_lem, done, left};
+ghost use Rattle.door.specs.Codes.{code as code_of, done, left};
 ghost use Rattle.door.specs.Tasks.{task_answer, NumbersLeft, BytesLeft};
 
 use super::codes::code;
@@ -85,7 +85,7 @@ fn tag_of<F: CodedField>(key: &[u8], pad: &[u8], body: &[u8], out: &mut [u8]) ->
 
 // The code of a call. One that answers numbers leaves the row for bytes alone, and the other way round.
 pub(crate) fn carry_out<F: CodedField>(task: Task<'_>, numbers: &mut [u16], bytes: &mut [u8]) -> u64
-    ensures answer { result ≡ code_of_lem (done (task_answer F.Field.arithmetic F.Coordinates.layout F.CodedField.bits task.entry (length numbers.old) (length bytes.old))) }
+    ensures answer { result ≡ code_of (done (task_answer F.Field.arithmetic F.Coordinates.layout F.CodedField.bits task.entry (length numbers.old) (length bytes.old))) }
     ensures numbers_left { NumbersLeft F.Field.arithmetic F.Coordinates.layout F.CodedField.bits task.entry numbers.old numbers.new }
     ensures bytes_left { BytesLeft F.Field.arithmetic F.Coordinates.layout F.CodedField.bits task.entry bytes.old bytes.new }
 {

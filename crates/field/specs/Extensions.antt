@@ -9,7 +9,7 @@ first f x = take f.size x
 abbrev pub second : {V : Type 0} → Arithmetic V → List ℕ → List ℕ
 second f x = drop f.size x
 
--- Pairs (a0, a1) of a field's values, which stand for a0 + a1·g, where g·g is the field's non_residue.
+-- Pairs (a0, a1) of a field's values, which stand for a0 + a1·g, where g·g is the field's non-residue.
 -- A pair means a0's list followed by a1's.
 abbrev pub extension : {V W : Type 0} → Arithmetic V → (W → V) → (W → V) → Arithmetic W
 extension f a0 a1 = record {

@@ -46,6 +46,6 @@ pub record Laws {V : Type 0} (a : Arithmetic V) : Type 0 where
   -- zero is not one, and every other value has an inverse
   pub zero_is_not_one : a.zero ≢ a.one
   pub inverse_exists : (x : V) → a.meaning x ≢ a.zero → ∥ ((y : V) × (a.times (a.meaning x) (a.meaning y) ≡ a.one)) ∥₁
-  -- the root of minus one, and the non_residue, which has no root
+  -- the root of minus one, and the non-residue, which has no root
   pub root_squared : a.times a.sqrt_minus_one a.sqrt_minus_one ≡ a.opposite a.one
   pub non_residue_has_no_root : (x : V) → a.times (a.meaning x) (a.meaning x) ≢ a.non_residue

@@ -6,7 +6,7 @@ ghost use Rattle.field.specs.ExtensionLaws.{extension_laws};
 use super::interface::Field;
 use fault::Fault;
 
-// a0 + a1·g, where g·g is the non_residue of the field below.
+// a0 + a1·g, where g·g is the non-residue of the field below.
 #[derive(Clone, Copy)]
 pub struct Quadratic<F> {
     pub a0: F,
@@ -67,7 +67,7 @@ impl<F: Field> Field for Quadratic<F> {
         }
     }
 
-    // a0/d − (a1/d)·g, where d = a0² − s·a1² is the norm and s the non_residue below.
+    // a0/d − (a1/d)·g, where d = a0² − s·a1² is the norm and s the non-residue below.
     fn inverse(self) -> Result<Self, Fault> {
         let low = self.a0.square();
         let high = self.a1.square();

@@ -13,7 +13,7 @@ constant n = n ∷ 0 ∷ 0 ∷ 0 ∷ 0 ∷ 0 ∷ 0 ∷ 0 ∷ []
 abbrev pub eight_remainders : ℕ → List ℕ → List ℕ
 eight_remainders q xs = map (λ k. slice_index xs k % q) (range_with_len 0 8)
 
--- A value keeps eight numbers, and means what they leave by q. The non_residue is X.
+-- A value keeps eight numbers, and means what they leave by q. The non-residue is X.
 abbrev pub polynomials : {V : Type 0} → ℕ → ℕ → (V → List ℕ) → Arithmetic V
 polynomials q root kept = record {
   meaning = λ x. eight_remainders q (kept x);

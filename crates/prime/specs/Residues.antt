@@ -11,7 +11,7 @@ abbrev pub just : ℕ → List ℕ
 just n = n ∷ []
 
 -- A value is kept as any number and means the list of its remainder by q.
--- Sums, opposites and products are those of whole numbers, reduced to the remainder; the non_residue is 2.
+-- Sums, opposites and products are those of whole numbers, reduced to the remainder; the non-residue is 2.
 abbrev pub residues : {V : Type 0} → ℕ → ℕ → (V → ℕ) → Arithmetic V
 residues q root kept = record {
   meaning = λ x. just (kept x % q);

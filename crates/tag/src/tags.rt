@@ -1,6 +1,6 @@
 //! Tags: sums of a body's blocks, weighed by powers of the key, plus a pad.
 ghost use Rattle.std.specs.Prelude.{◌≡◌, ℕ, ◌*◌, ◌/◌, ◌<◌, ◌≤◌, length};
-ghost use Rattle.tag.specs.Tags.{block as BlockOf, block_count, blocks_absorbed, absorbed as absorbed_of, four_absorbed, ArePowers, TagIsWeighedSum};
+ghost use Rattle.tag.specs.Tags.{block as block_of, block_count, blocks_absorbed, absorbed as absorbed_of, four_absorbed, ArePowers, TagIsWeighedSum};
 ghost use Rattle.tag.specs.KeyBound.{FewKeysFitTwoBodies};
 ghost use Rattle.tag.specs.Tickets.{Answers, tag_answer, blocks_answer};
 
@@ -11,7 +11,7 @@ use fault::{Fault, Refusal};
 // Block `at` of a body, where it lies; the last one may be short.
 fn cut(body: &[u8], size: usize, at: usize) -> &[u8]
     requires { size * at ≤ length body.now }
-    ensures { result.now ≡ BlockOf size at body.now }
+    ensures { result.now ≡ block_of size at body.now }
 {
     let from = size * at;
     if body.len() - from < size {
