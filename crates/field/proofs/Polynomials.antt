@@ -72,18 +72,18 @@ module _ {A : Type 0} (o : Operations A) (f : IsField o) where
   unfolding quotient
   quotient_right t x [] = ring o r (t ∷ x ∷ []) (search quotes) refl
   quotient_right t x (c ∷ cs) =
-      let at_x = horner o cs x in let at-t = horner o cs t in let at_quotient = horner o (quotient t cs) x in
-      ring o r (t ∷ x ∷ c ∷ at_x ∷ at-t ∷ []) (search quotes depth 12) refl
-      ∙ ap (λ (u : A). (x + neg t) * (c + t * at-t) + x * u) (quotient_right t x cs)
-      ∙ ring o r (t ∷ x ∷ c ∷ at-t ∷ at_quotient ∷ []) (search quotes depth 12) refl
+      let at_x = horner o cs x in let at_t = horner o cs t in let at_quotient = horner o (quotient t cs) x in
+      ring o r (t ∷ x ∷ c ∷ at_x ∷ at_t ∷ []) (search quotes depth 12) refl
+      ∙ ap (λ (u : A). (x + neg t) * (c + t * at_t) + x * u) (quotient_right t x cs)
+      ∙ ring o r (t ∷ x ∷ c ∷ at_t ∷ at_quotient ∷ []) (search quotes depth 12) refl
 
   module _ (c : A) (cs : List A) (t : A) (root : horner o (c ∷ cs) t ≡ zero) where
     -- a root of c ∷ cs other than t is a root of the quotient
     root_stays : (x : A) → t ≢ x → horner o (c ∷ cs) x ≡ zero → horner o (quotient t cs) x ≡ zero
     root_stays x n h =
-        let at_x = x * horner o cs x in let at-t = t * horner o cs t in
+        let at_x = x * horner o cs x in let at_t = t * horner o cs t in
         no_zero_divisor o f (x + neg t) (horner o (quotient t cs) x) (λ e. n (sym (difference_zero o f x t e)))
-        (sym (quotient_right t x cs) ∙ ring o r (c ∷ at_x ∷ at-t ∷ []) (search quotes) refl ∙ ap₂ (λ u v. u + neg v) h root ∙ r.plus_opposite zero)
+        (sym (quotient_right t x cs) ∙ ring o r (c ∷ at_x ∷ at_t ∷ []) (search quotes) refl ∙ ap₂ (λ u v. u + neg v) h root ∙ r.plus_opposite zero)
 
     roots_stay : (xs : List A) → AllByRecursion (λ x. t ≢ x) xs → AllRoots o (c ∷ cs) xs → AllRoots o (quotient t cs) xs
     roots_stay [] n h = tt

@@ -38,7 +38,7 @@ module _ {A : Type 0} (o : Operations A) (f : IsField o) where
   pub difference_zero : (x y : A) → x + neg y ≡ zero → x ≡ y
   difference_zero x y h = ring o r (x ∷ y ∷ []) (search quotes) refl ∙ ap (λ t. t + y) h ∙ zero_plus o r y
 
-  module _ (s : A) (no-root : HasNoRoot o s) where
+  module _ (s : A) (no_root : HasNoRoot o s) where
     -- a square is s times a square only where both are zero
     pub no_ratio : (a0 a1 : A) → a0 * a0 ≡ s * (a1 * a1) → a1 ≡ zero
     no_ratio a0 a1 h = go (decide a1 zero)
@@ -47,7 +47,7 @@ module _ {A : Type 0} (o : Operations A) (f : IsField o) where
         go (yes e) = e
         go (no n) =
             let b = inverse a1 n in
-            absurd (no-root (a0 * b.0)
+            absurd (no_root (a0 * b.0)
             (ring o r (a0 ∷ b.0 ∷ []) (search quotes) refl
             ∙ ap (λ t. t * (b.0 * b.0)) h
             ∙ ring o r (s ∷ a1 ∷ b.0 ∷ []) (search quotes) refl

@@ -53,7 +53,7 @@ module _ {A : Type 0} (o : Operations A) (r : Ring o) (s : A) where
       (ring o r (s ∷ i ∷ []) (search quotes) refl ∙ h)
       (ring o r (s ∷ i ∷ []) (search quotes) refl)
 
-module _ {A : Type 0} (o : Operations A) (f : IsField o) (s : A) (no-root : HasNoRoot o s) where
+module _ {A : Type 0} (o : Operations A) (f : IsField o) (s : A) (no_root : HasNoRoot o s) where
   open o use {zero, one, plus as ◌+◌, times as ◌*◌, opposite as neg}
 
   infixl 65 ◌+◌
@@ -67,7 +67,7 @@ module _ {A : Type 0} (o : Operations A) (f : IsField o) (s : A) (no-root : HasN
     zero_is_not_one = λ h. f.zero_is_not_one (ap (λ (x : A × A). x.0) h);
     inverse = λ x n.
         let norm = x.0 * x.0 + neg (s * (x.1 * x.1)) in
-        let e = f.inverse norm (λ h. n (both (norm_zero o f s no-root x.0 x.1 h).0 (norm_zero o f s no-root x.0 x.1 h).1)) in
+        let e = f.inverse norm (λ h. n (both (norm_zero o f s no_root x.0 x.1 h).0 (norm_zero o f s no_root x.0 x.1 h).1)) in
         ((x.0 * e.0, neg (x.1 * e.0)), norm_times o r s x e.0 ∙ both e.1 refl);
   }
 
@@ -76,7 +76,7 @@ module _ {A : Type 0} (o : Operations A) (f : IsField o) (s : A) (no-root : HasN
   generator_has_no_root i root_squared t h =
       let p : t.0 * t.0 + s * (t.1 * t.1) ≡ zero = ap (λ (x : A × A). x.0) h in
       let q : t.0 * t.1 + t.1 * t.0 ≡ one = ap (λ (x : A × A). x.1) h in
-      let z : t.1 ≡ zero = no_ratio o f s no-root (i * t.0) t.1
+      let z : t.1 ≡ zero = no_ratio o f s no_root (i * t.0) t.1
       (ring o r (i ∷ t.0 ∷ []) (search quotes) refl ∙ ap (λ u. u * (t.0 * t.0)) root_squared
       ∙ ring o r (s ∷ t.0 ∷ t.1 ∷ []) (search quotes) refl
       ∙ ap (λ u. s * (t.1 * t.1) + neg u) p ∙ ring o r (s ∷ t.1 ∷ []) (search quotes) refl) in

@@ -50,8 +50,8 @@ module _ {V : Type 0} (q width root : ℕ) (p : PrimeModulus q width root) (kept
           let m = make i.0 in
           ∣ (m.0, ap just (ap (λ (t : ℕ). (kept x % q * (t % q)) % q) m.1 ∙ times_mod_right _ _ q ∙ i.1)) ∣₁;
       root_squared =
-          let above = p.above_two in let one_below : 1 < q = omega arith in let last-below : q - 1 < q = omega arith in
-          ap just (p.root_squared ∙ sym (ap (λ (t : ℕ). (q - t) % q) (mod-eq_of_lt one_below) ∙ mod-eq_of_lt last-below));
+          let above = p.above_two in let one_below : 1 < q = omega arith in let last_below : q - 1 < q = omega arith in
+          ap just (p.root_squared ∙ sym (ap (λ (t : ℕ). (q - t) % q) (mod-eq_of_lt one_below) ∙ mod-eq_of_lt last_below));
       non_residue_has_no_root = λ x h. p.two_has_no_root (kept x % q) (below _) (ap number h);
     }
 

@@ -68,7 +68,7 @@ given_right bytes x z h = (both_given x x (fault 5 Call 0) (leb 2 (length bytes)
 
 -- The answer for a ticket of the right length, with its body and tag as the code cuts them.
 module _ {V : Type 0} (a : Arithmetic V) (l : Layout) (w : ℕ) (key pads ticket : List ℕ) (size : ℕ) (same : size ≡ encoded_size_of w l.count) (long : size + 2 ≤ length ticket) (short : length ticket ≤ size + 440)
-    (o : Opened) (was-opened : opened (take ((length ticket - size) - 0) ticket) ≡ Ok o) where
+    (o : Opened) (was_opened : opened (take ((length ticket - size) - 0) ticket) ≡ Ok o) where
   abbrev T : ℕ
   T = encoded_size_of w l.count
 
@@ -91,7 +91,7 @@ module _ {V : Type 0} (a : Arithmetic V) (l : Layout) (w : ℕ) (key pads ticket
   tag_is = take_rest ticket (length ticket - size) ∙ ap (λ k. drop (length ticket - k) ticket) same
 
   parts_are : parts (ticket_body a l w ticket) ≡ o
-  parts_are = ap parts (sym body_is) ∙ given_right bytes (parts bytes) o was-opened
+  parts_are = ap parts (sym body_is) ∙ given_right bytes (parts bytes) o was_opened
 
   -- what is answered of the parts, of a ticket of the right length, and with a pad, of its tag
   abbrev of_tag : List ℕ → List ℕ → Result Opened Fault

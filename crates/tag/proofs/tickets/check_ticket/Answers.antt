@@ -39,5 +39,5 @@ returns-else-same g c =
     let o : Opened = record { number = c.in_ok-body.body.number; route = c.in_ok-body.body.route; text = c.in_ok-body.body.text.now } in
     let claimed = g.met.F.Coordinates.coordinates.told_back c.in_ok-claimed.claimed in
     tag_false a l w (a.meaning c.args.key) c.args.pads.now c.args.ticket.now c.encoded_size-size.result c.encoded_size-size.ensures c.if-ticket-size.false c.if-ticket-size-2.false o c.in_ok-body.ensures (a.meaning c.in_ok-pad.pad) c.in_ok-pad.ensures _ _ c.in_ok-claimed.ensures.answer c.in_ok-right.ensures.answer
-    (λ e. let yes-same = c.same.ensures.1 (e ∙ claimed) in let not_same = c.if-same.false in let z : ◌≡◌ {A = ℕ} 0 1 = cc in omega arith)
+    (λ e. let yes_same = c.same.ensures.1 (e ∙ claimed) in let not_same = c.if-same.false in let z : ◌≡◌ {A = ℕ} 0 1 = cc in omega arith)
     ∙ ap Err (sym c.of_call-else-same.ensures)

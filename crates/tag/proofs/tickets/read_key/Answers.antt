@@ -13,4 +13,4 @@ pub returns : goal.returns
 returns g c =
     let a = g.F.Field.arithmetic in
     key_read a g.F.Coordinates.layout g.F.CodedField.bits g.met.F.Coordinates.coordinates c.args.bytes.now c.in_ok-key.key c.in_ok-key.ensures.answer
-    (λ e. let yes-same = c.same.ensures.1 (e ∙ sym c.zero.ensures) in let not_same = c.if-same.false in let z : ◌≡◌ {A = ℕ} 0 1 = cc in omega arith)
+    (λ e. let yes_same = c.same.ensures.1 (e ∙ sym c.zero.ensures) in let not_same = c.if-same.false in let z : ◌≡◌ {A = ℕ} 0 1 = cc in omega arith)

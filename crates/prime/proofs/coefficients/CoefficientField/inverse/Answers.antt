@@ -7,5 +7,5 @@ pub returns-else-number-eq0 : goal.returns-else-number-eq0
 returns-else-number-eq0 g c =
     let x = c.args.self.kept in
     let q = g.M.Modulus.q in
-    let not-zero = rw c.number.ensures at c.if-number-eq0.false in
-    (λ h. not-zero (ap number h), ap just (times_mod_left x _ q ∙ times_mod_right x _ q ∙ c.inverse_entry.ensures.inverts not-zero))
+    let not_zero = rw c.number.ensures at c.if-number-eq0.false in
+    (λ h. not_zero (ap number h), ap just (times_mod_left x _ q ∙ times_mod_right x _ q ∙ c.inverse_entry.ensures.inverts not_zero))
