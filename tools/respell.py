@@ -2,7 +2,9 @@
 """Respells the names that specs/ and proofs/ of this repository define: once, after the kit's own port.
 
 Words get underscores (`block-size` becomes `block_size`), types and facts camel case (`Just-one-inverse` becomes
-`JustOneInverse`), a prime is an apostrophe. Functions of src/, strings, goals, steps and names of libraries stay.
+`JustOneInverse`), a prime is an apostrophe. Functions of src/, strings, goals and names of libraries stay.
+It goes by words: a step of a proof, or a word of a comment, that is spelled like a definition is respelled too, and was
+mended by hand.
 
 usage: python3 tools/respell.py [--try]     at the top of the repository; --try only lists what would be renamed
 """
