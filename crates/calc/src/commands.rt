@@ -1,9 +1,17 @@
 //! Commands: what a line asks for.
-use super::forms::Form;
-use super::lines::LONGEST_LINE;
+use super::forms::{Form, Kind, Size};
 use super::problems::Problem;
 use super::{coded, forms};
+use coding::{CodedField, WideModulus};
+use field::Coordinates;
+use polynomial::PolynomialBasis;
+use prime::{Coefficient, LongTower, P1021, P4093, ShortTower};
 use std::alloc::{AllocError, Global};
+use std::str::FromStr;
+use wording::{Line, Misreading};
+
+// The longest line that is read, in bytes, without its end.
+pub(crate) const LONGEST_LINE: u32 = 4096;
 
 // What is done with the arguments.
 #[derive(Clone, Copy)]
@@ -27,31 +35,35 @@ pub(crate) enum Verb {
     Ticket,
 }
 
-impl Verb {
-    fn named(name: &str) -> Option<Verb> {
-        match name {
-            "add" => Some(Verb::Add),
-            "neg" => Some(Verb::Neg),
-            "mul" => Some(Verb::Mul),
-            "square" => Some(Verb::Square),
-            "inverse" => Some(Verb::Inverse),
-            "nonresidue" => Some(Verb::NonResidue),
-            "by-nonresidue" => Some(Verb::ByNonResidue),
-            "sqrt-minus-one" => Some(Verb::SqrtMinusOne),
-            "same" => Some(Verb::Same),
-            "convert" => Some(Verb::Convert),
-            "encode" => Some(Verb::Encode),
-            "decode" => Some(Verb::Decode),
-            "block" => Some(Verb::Block),
-            "body" => Some(Verb::Body),
-            "tag" => Some(Verb::Tag),
-            "blocks" => Some(Verb::Blocks),
-            "ticket" => Some(Verb::Ticket),
-            _ => None,
-        }
-    }
+impl FromStr for Verb {
+    type Err = Problem;
 
-    fn arguments(self) -> usize {
+    fn from_str(name: &str) -> Result<Verb, Problem> {
+        Ok(match name {
+            "add" => Verb::Add,
+            "neg" => Verb::Neg,
+            "mul" => Verb::Mul,
+            "square" => Verb::Square,
+            "inverse" => Verb::Inverse,
+            "nonresidue" => Verb::NonResidue,
+            "by-nonresidue" => Verb::ByNonResidue,
+            "sqrt-minus-one" => Verb::SqrtMinusOne,
+            "same" => Verb::Same,
+            "convert" => Verb::Convert,
+            "encode" => Verb::Encode,
+            "decode" => Verb::Decode,
+            "block" => Verb::Block,
+            "body" => Verb::Body,
+            "tag" => Verb::Tag,
+            "blocks" => Verb::Blocks,
+            "ticket" => Verb::Ticket,
+            _ => return Err(Problem::NoSuchOperation),
+        })
+    }
+}
+
+impl Verb {
+    fn count_arguments(self) -> usize {
         match self {
             Verb::NonResidue | Verb::SqrtMinusOne => 0,
             Verb::Add | Verb::Mul | Verb::Same => 2,
@@ -60,67 +72,106 @@ impl Verb {
         }
     }
 
-    // Whether it is about encodings, blocks, bodies, tags or tickets.
+    // Whether it is about encodings, blocks, bodies, tags or tickets. Two enums for the two sorts would need a name for
+    // either, and a third type for both: names are tested before forms and arguments are.
     pub(crate) fn is_coded(self) -> bool {
-        match self {
-            Verb::Encode | Verb::Decode | Verb::Block | Verb::Blocks => true,
-            Verb::Body | Verb::Tag | Verb::Ticket => true,
-            _ => false,
+        matches!(
+            self,
+            Verb::Encode
+                | Verb::Decode
+                | Verb::Block
+                | Verb::Blocks
+                | Verb::Body
+                | Verb::Tag
+                | Verb::Ticket
+        )
+    }
+}
+
+// A form, one of its operations, and as many arguments as that takes.
+#[derive(Clone, Copy)]
+pub(crate) struct Command<'a> {
+    pub(crate) heap: Global,
+    pub(crate) form: Form,
+    pub(crate) verb: Verb,
+    pub(crate) arguments: &'a [&'a str],
+}
+
+impl Command<'_> {
+    fn answer(self) -> Result<String, Problem> {
+        match self.form.size {
+            Size::Q4093 => self.by_modulus::<P4093>(),
+            Size::Q1021 => self.by_modulus::<P1021>(),
         }
     }
+
+    fn by_modulus<M: WideModulus>(self) -> Result<String, Problem> {
+        match (self.form.kind, self.verb) {
+            (Kind::Long, Verb::Convert) => {
+                let tower: LongTower<M> = self.value()?;
+                Ok(Kind::Poly.shown(self.heap, PolynomialBasis::from(tower))?)
+            }
+            (Kind::Poly, Verb::Convert) => {
+                let polynomial: PolynomialBasis<M> = self.value()?;
+                Ok(Kind::Long.shown(self.heap, LongTower::from(polynomial))?)
+            }
+            (Kind::Prime, _) => forms::answer::<Coefficient<M>>(self),
+            (Kind::Short, _) => self.by_field::<ShortTower<M>>(),
+            (Kind::Long, _) => self.by_field::<LongTower<M>>(),
+            (Kind::Poly, _) => self.by_field::<PolynomialBasis<M>>(),
+        }
+    }
+
+    fn by_field<F: CodedField>(self) -> Result<String, Problem> {
+        if self.verb.is_coded() {
+            coded::answer::<F>(self)
+        } else {
+            forms::answer::<F>(self)
+        }
+    }
+
+    // The value that is the only argument.
+    pub(crate) fn value<F: Coordinates>(self) -> Result<F, Problem> {
+        let [word] = self.arguments else {
+            return Err(Problem::WrongNumberOfArguments);
+        };
+        let list = forms::coefficients(self.heap, word)?;
+        Ok(self.form.kind.value(&list)?)
+    }
 }
 
-// The answer to a line, of which `over` says that it was longer than what is here; none to an empty line or a comment.
-pub(crate) fn answer(heap: Global, line: &[u8], over: bool) -> Result<Option<String>, AllocError> {
-    let line = without_carriage_return(line, over);
-    if line.is_empty() || line[0] == b'#' {
+// The answer to a line with its end; nothing to an empty line or a comment.
+// The desk of tickets has these arms too, over its own problems: a trait for both would be longer than they are.
+pub(crate) fn answer(heap: Global, line: &Line<LONGEST_LINE>) -> Result<String, AllocError> {
+    match reply(heap, line) {
+        Ok(None) => Ok(String::new(heap)),
+        Ok(Some(text)) => format!(in heap; "{text}\n"),
+        Err(Problem::OutOfMemory(error) | Problem::Misread(Misreading::OutOfMemory(error))) => {
+            Err(error)
+        }
+        Err(problem) => format!(in heap; "{problem}\n"),
+    }
+}
+
+fn reply(heap: Global, line: &Line<LONGEST_LINE>) -> Result<Option<String>, Problem> {
+    let Some(text) = line.text()? else {
         return Ok(None);
-    }
-    match reply(heap, line, over) {
-        Ok(text) => Ok(Some(text)),
-        Err(Problem::OutOfMemory) => Err(AllocError),
-        Err(problem) => Ok(Some(format!(in heap; "{problem}")?)),
-    }
-}
-
-fn without_carriage_return(line: &[u8], over: bool) -> &[u8] {
-    match line {
-        [front @ .., b'\r'] if !over => front,
-        _ => line,
-    }
-}
-
-fn reply(heap: Global, line: &[u8], over: bool) -> Result<String, Problem> {
-    if over || line.len() > LONGEST_LINE {
-        return Err(Problem::LineTooLong);
-    }
-    let text = text_of(line)?;
+    };
     let mut words = text.split(' ');
-    let form = Form::named(words.next().unwrap_or("")).ok_or(Problem::NoSuchForm)?;
-    let verb = Verb::named(words.next().unwrap_or("")).ok_or(Problem::NoSuchOperation)?;
+    let form: Form = words.next().unwrap_or("").parse()?;
+    let verb: Verb = words.next().unwrap_or("").parse()?;
     if !form.has(verb) {
         return Err(Problem::NoSuchOperation);
     }
     let arguments: Vec<&str> = words.collect(heap)?;
-    if arguments.len() != verb.arguments() {
+    if arguments.len() != verb.count_arguments() {
         return Err(Problem::WrongNumberOfArguments);
     }
-    if verb.is_coded() {
-        coded::answer(heap, form, verb, &arguments)
-    } else {
-        forms::answer(heap, form, verb, &arguments)
-    }
-}
-
-// The line as text: every byte a printable character of ASCII.
-fn text_of(line: &[u8]) -> Result<&str, Problem> {
-    for byte in line {
-        if *byte < b' ' || *byte > b'~' {
-            return Err(Problem::NotText);
-        }
-    }
-    match std::str::from_utf8(line) {
-        Ok(text) => Ok(text),
-        Err(_) => Err(Problem::NotText),
-    }
+    let command = Command {
+        heap,
+        form,
+        verb,
+        arguments: &arguments,
+    };
+    Ok(Some(command.answer()?))
 }

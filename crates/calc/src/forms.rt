@@ -1,13 +1,13 @@
 //! Forms: the fields that a command can name, and the calculation in each.
-use super::commands::Verb;
+use super::commands::{Command, Verb};
 use super::problems::Problem;
-use super::words;
 use calculator::{Answer, Operation, calculate};
 use fault::Fault;
 use field::Coordinates;
-use polynomial::{PolynomialBasis, bit_reversed, to_polynomial, to_tower};
-use prime::{Coefficient, LongTower, Modulus, P1021, P4093, ShortTower};
+use polynomial::bit_reversed;
 use std::alloc::{AllocError, Global};
+use std::array;
+use std::str::FromStr;
 
 #[derive(Clone, Copy)]
 pub(crate) enum Kind {
@@ -15,6 +15,20 @@ pub(crate) enum Kind {
     Short,
     Long,
     Poly,
+}
+
+impl FromStr for Kind {
+    type Err = Problem;
+
+    fn from_str(name: &str) -> Result<Kind, Problem> {
+        match name {
+            "prime" => Ok(Kind::Prime),
+            "short" => Ok(Kind::Short),
+            "long" => Ok(Kind::Long),
+            "poly" => Ok(Kind::Poly),
+            _ => Err(Problem::NoSuchForm),
+        }
+    }
 }
 
 impl Kind {
@@ -33,6 +47,33 @@ impl Kind {
             _ => self,
         }
     }
+
+    // The value that a list in the order of the kind stands for.
+    pub(crate) fn value<F: Coordinates>(self, list: &[u16]) -> Result<F, Fault> {
+        match (self, <[u16; 8]>::try_from(list)) {
+            (Kind::Long, Ok(places)) => F::from_coefficients(&bit_reversed(places)),
+            _ => F::from_coefficients(list),
+        }
+    }
+
+    // The coefficients in the order of the kind, joined by commas.
+    pub(crate) fn shown<F: Coordinates>(
+        self,
+        heap: Global,
+        value: F,
+    ) -> Result<String, AllocError> {
+        let by_power = array::from_fn(|power| value.coefficient(power));
+        let list = match self {
+            Kind::Long => bit_reversed(by_power),
+            _ => by_power,
+        };
+        let mut text = String::new(heap);
+        for (place, coefficient) in list.iter().take(self.count()).enumerate() {
+            let comma = if place > 0 { "," } else { "" };
+            write!(text, "{comma}{coefficient}")?;
+        }
+        Ok(text)
+    }
 }
 
 #[derive(Clone, Copy)]
@@ -41,28 +82,37 @@ pub(crate) enum Size {
     Q1021,
 }
 
+impl FromStr for Size {
+    type Err = Problem;
+
+    fn from_str(name: &str) -> Result<Size, Problem> {
+        match name {
+            "4093" => Ok(Size::Q4093),
+            "1021" => Ok(Size::Q1021),
+            _ => Err(Problem::NoSuchForm),
+        }
+    }
+}
+
 #[derive(Clone, Copy)]
 pub(crate) struct Form {
     pub(crate) kind: Kind,
     pub(crate) size: Size,
 }
 
-impl Form {
-    pub(crate) fn named(name: &str) -> Option<Form> {
-        let (kind, size) = match name {
-            "prime-4093" => (Kind::Prime, Size::Q4093),
-            "prime-1021" => (Kind::Prime, Size::Q1021),
-            "short-4093" => (Kind::Short, Size::Q4093),
-            "short-1021" => (Kind::Short, Size::Q1021),
-            "long-4093" => (Kind::Long, Size::Q4093),
-            "long-1021" => (Kind::Long, Size::Q1021),
-            "poly-4093" => (Kind::Poly, Size::Q4093),
-            "poly-1021" => (Kind::Poly, Size::Q1021),
-            _ => return None,
-        };
-        Some(Form { kind, size })
-    }
+impl FromStr for Form {
+    type Err = Problem;
 
+    fn from_str(name: &str) -> Result<Form, Problem> {
+        let (kind, size) = name.split_once('-').ok_or(Problem::NoSuchForm)?;
+        Ok(Form {
+            kind: kind.parse()?,
+            size: size.parse()?,
+        })
+    }
+}
+
+impl Form {
     // Whether the form has the operation: only the long and the poly form are converted, to each other, and a prime field
     // carries no tags.
     pub(crate) fn has(self, verb: Verb) -> bool {
@@ -75,125 +125,43 @@ impl Form {
 }
 
 // The answer in words and numbers.
-pub(crate) fn answer(
-    heap: Global,
-    form: Form,
-    verb: Verb,
-    arguments: &[&str],
-) -> Result<String, Problem> {
-    match form.size {
-        Size::Q4093 => by_modulus::<P4093>(heap, form.kind, verb, arguments),
-        Size::Q1021 => by_modulus::<P1021>(heap, form.kind, verb, arguments),
-    }
-}
-
-fn by_modulus<M: Modulus>(
-    heap: Global,
-    kind: Kind,
-    verb: Verb,
-    arguments: &[&str],
-) -> Result<String, Problem> {
-    match (kind, verb, arguments) {
-        (Kind::Long, Verb::Convert, [tower]) => {
-            let tower: LongTower<M> = value(kind, &words::coefficients(heap, tower)?)?;
-            Ok(shown(heap, Kind::Poly, to_polynomial(tower))?)
-        }
-        (Kind::Poly, Verb::Convert, [polynomial]) => {
-            let polynomial: PolynomialBasis<M> = value(
-                kind,
-                &words::coefficients(heap, polynomial)?,
-            )?;
-            Ok(shown(heap, Kind::Long, to_tower(polynomial))?)
-        }
-        (Kind::Prime, _, _) => by_field::<Coefficient<M>>(heap, kind, verb, arguments),
-        (Kind::Short, _, _) => by_field::<ShortTower<M>>(heap, kind, verb, arguments),
-        (Kind::Long, _, _) => by_field::<LongTower<M>>(heap, kind, verb, arguments),
-        (Kind::Poly, _, _) => by_field::<PolynomialBasis<M>>(heap, kind, verb, arguments),
-    }
-}
-
-fn by_field<F: Coordinates>(
-    heap: Global,
-    kind: Kind,
-    verb: Verb,
-    arguments: &[&str],
-) -> Result<String, Problem> {
-    match calculate(operation::<F>(heap, kind, verb, arguments)?)? {
-        Answer::Value(value) => Ok(shown(heap, kind, value)?),
-        Answer::Same(true) => Ok(String::from_str(heap, "yes")?),
-        Answer::Same(false) => Ok(String::from_str(heap, "no")?),
+pub(crate) fn answer<F: Coordinates>(command: Command<'_>) -> Result<String, Problem> {
+    let Command { heap, form, .. } = command;
+    match calculate(operation::<F>(command)?)? {
+        Answer::Value(value) => Ok(form.kind.shown(heap, value)?),
+        Answer::Same(same) => Ok(String::from_str(heap, if same { "yes" } else { "no" })?),
     }
 }
 
 // All arguments are understood before the first value is built.
-fn operation<F: Coordinates>(
-    heap: Global,
-    kind: Kind,
-    verb: Verb,
-    arguments: &[&str],
-) -> Result<Operation<F>, Problem> {
-    let first = match arguments.first() {
-        Some(word) => words::coefficients(heap, word)?,
-        None => Vec::new(heap),
-    };
-    let second = match arguments.get(1) {
-        Some(word) => words::coefficients(heap, word)?,
-        None => Vec::new(heap),
-    };
-    Ok(match verb {
-        Verb::Add => Operation::Add(value(kind, &first)?, value(kind, &second)?),
-        Verb::Neg => Operation::Neg(value(kind, &first)?),
-        Verb::Mul => Operation::Mul(value(kind, &first)?, value(kind, &second)?),
-        Verb::Square => Operation::Square(value(kind, &first)?),
-        Verb::Inverse => Operation::Inverse(value(kind, &first)?),
-        Verb::NonResidue => Operation::NonResidue,
-        Verb::ByNonResidue => Operation::ByNonResidue(value(kind, &first)?),
-        Verb::SqrtMinusOne => Operation::SqrtMinusOne,
-        Verb::Same => Operation::Same(value(kind, &first)?, value(kind, &second)?),
+fn operation<F: Coordinates>(command: Command<'_>) -> Result<Operation<F>, Problem> {
+    let Command {
+        heap,
+        form: Form { kind, .. },
+        verb,
+        arguments,
+    } = command;
+    let lists: Vec<Vec<u16>> = arguments
+        .iter()
+        .map(|word| coefficients(heap, word))
+        .try_collect(heap)?;
+    Ok(match (verb, lists.as_slice()) {
+        (Verb::Add, [a, b]) => Operation::Add(kind.value(a)?, kind.value(b)?),
+        (Verb::Neg, [a]) => Operation::Neg(kind.value(a)?),
+        (Verb::Mul, [a, b]) => Operation::Mul(kind.value(a)?, kind.value(b)?),
+        (Verb::Square, [a]) => Operation::Square(kind.value(a)?),
+        (Verb::Inverse, [a]) => Operation::Inverse(kind.value(a)?),
+        (Verb::NonResidue, []) => Operation::NonResidue,
+        (Verb::ByNonResidue, [a]) => Operation::ByNonResidue(kind.value(a)?),
+        (Verb::SqrtMinusOne, []) => Operation::SqrtMinusOne,
+        (Verb::Same, [a, b]) => Operation::Same(kind.value(a)?, kind.value(b)?),
         _ => return Err(Problem::NoSuchOperation),
     })
 }
 
-// The value that a list in the order of the form stands for.
-pub(crate) fn value<F: Coordinates>(kind: Kind, list: &[u16]) -> Result<F, Fault> {
-    match (kind, list) {
-        (Kind::Long, [a, b, c, d, e, f, g, h]) => F::from_coefficients(&bit_reversed([
-            *a, *b, *c, *d, *e, *f, *g, *h,
-        ])),
-        _ => F::from_coefficients(list),
-    }
-}
-
-// The coefficients in the order of the form, joined by commas.
-pub(crate) fn shown<F: Coordinates>(
-    heap: Global,
-    kind: Kind,
-    value: F,
-) -> Result<String, AllocError> {
-    let mut text = String::new(heap);
-    let list = in_order(kind, value);
-    for (place, coefficient) in list.iter().take(kind.count()).enumerate() {
-        if place > 0 {
-            text.push(',')?;
-        }
-        text.push_str(format!(in heap; "{coefficient}")?.as_str())?;
-    }
-    Ok(text)
-}
-
-fn in_order<F: Coordinates>(kind: Kind, value: F) -> [u16; 8] {
-    let by_power = [
-        value.coefficient(0),
-        value.coefficient(1),
-        value.coefficient(2),
-        value.coefficient(3),
-        value.coefficient(4),
-        value.coefficient(5),
-        value.coefficient(6),
-        value.coefficient(7),
-    ];
-    match kind {
-        Kind::Long => bit_reversed(by_power),
-        _ => by_power,
-    }
+// The coefficients of a value: decimal numbers joined by commas.
+pub(crate) fn coefficients(heap: Global, word: &str) -> Result<Vec<u16>, Problem> {
+    word.split(',')
+        .map(|part| wording::number(part).map_err(|_| Problem::NotAValue))
+        .try_collect(heap)
 }

@@ -4,32 +4,28 @@
 mod coded;
 mod commands;
 mod forms;
-mod lines;
 mod problems;
-mod words;
 
-use lines::LineBuffer;
-use std::io::{Read, Write};
+use commands::{LONGEST_LINE, answer};
+use std::io::{BufReader, Read, Write};
+use wording::Line;
 
 fn main(rt: HostRuntime) -> anyhow::Result<()> {
     let heap = rt.alloc();
-    let mut input = rt.stdin();
     let mut output = rt.stdout();
-    let mut line = LineBuffer::new(heap);
-    let mut chunk = [0u8; 4096];
-    for _ in 0..u64::MAX {
-        let count = input.read(&mut chunk)?;
-        if count == 0 {
-            break;
+    let mut line: Line<LONGEST_LINE> = Line::new(heap);
+    // Both programs of lines have this loop: shared, it would be a public function, and no contract can say what it reads and
+    // writes.
+    for byte in BufReader::new(heap, rt.stdin())?.bytes() {
+        match byte? {
+            b'\n' => {
+                output.write_all(answer(heap, &line)?.as_bytes())?;
+                line.clear();
+            }
+            byte => line.push(byte)?,
         }
-        let mut answers = String::new(heap);
-        for byte in &chunk[0..count] {
-            line.take(heap, *byte, &mut answers)?;
-        }
-        output.write_all(answers.as_bytes())?;
     }
-    let mut last = String::new(heap);
-    line.end(heap, &mut last)?;
-    output.write_all(last.as_bytes())?;
+    // the last line may lack its newline
+    output.write_all(answer(heap, &line)?.as_bytes())?;
     Ok(())
 }

@@ -1,49 +1,25 @@
 //! Why a line has no value for an answer.
 use fault::Fault;
 use std::alloc::AllocError;
-use std::fmt;
+use thiserror::Error;
+use wording::Misreading;
 
-// The line is refused, or cannot be understood.
-#[derive(Clone, Copy)]
+// The line is refused, or cannot be understood. The program of orders has some of these too; one enum for both would name
+// problems that neither meets.
+#[derive(Debug, Drop, Error)]
 pub(crate) enum Problem {
-    Refused(Fault),
-    LineTooLong,
-    NotText,
+    #[error(transparent)]
+    Refused(#[from] Fault),
+    #[error("? {0}")]
+    Misread(#[from] Misreading),
+    #[error("? no such form")]
     NoSuchForm,
+    #[error("? no such operation")]
     NoSuchOperation,
+    #[error("? wrong number of arguments")]
     WrongNumberOfArguments,
+    #[error("? not a value")]
     NotAValue,
-    NotANumber,
-    NotBytes,
-    OutOfMemory,
-}
-
-impl fmt::Display for Problem {
-    fn fmt<W: fmt::Write>(&self, f: &mut fmt::Formatter<W>) -> fmt::Result {
-        let text = match *self {
-            Problem::Refused(fault) => return write!(f, "{fault}"),
-            Problem::LineTooLong => "line too long",
-            Problem::NotText => "not text",
-            Problem::NoSuchForm => "no such form",
-            Problem::NoSuchOperation => "no such operation",
-            Problem::WrongNumberOfArguments => "wrong number of arguments",
-            Problem::NotAValue => "not a value",
-            Problem::NotANumber => "not a number",
-            Problem::NotBytes => "not bytes",
-            Problem::OutOfMemory => "out of memory",
-        };
-        write!(f, "? {text}")
-    }
-}
-
-impl From<AllocError> for Problem {
-    fn from(_e: AllocError) -> Problem {
-        Problem::OutOfMemory
-    }
-}
-
-impl From<Fault> for Problem {
-    fn from(fault: Fault) -> Problem {
-        Problem::Refused(fault)
-    }
+    #[error(transparent)]
+    OutOfMemory(#[from(alloc)] AllocError),
 }

@@ -29,8 +29,9 @@ pub enum Answer<F> {
 }
 
 // The answer of an operation, by the arithmetic of the field.
+#[tactic(auto, using(crate::proofs::Examples::worked_examples))]
 pub fn calculate<F: Field>(operation: Operation<F>) -> Result<Answer<F>, Fault>
-    ensures answer { Calculated F.Field.arithmetic operation result }
+    ensures answer { Calculated F.arithmetic operation result }
     ensures examples { WorkedExamples }
 {
     match operation {
@@ -42,6 +43,6 @@ pub fn calculate<F: Field>(operation: Operation<F>) -> Result<Answer<F>, Fault>
         Operation::NonResidue => Ok(Answer::Value(F::non_residue())),
         Operation::ByNonResidue(a) => Ok(Answer::Value(a.mul_by_non_residue())),
         Operation::SqrtMinusOne => Ok(Answer::Value(F::sqrt_minus_one())),
-        Operation::Same(a, b) => Ok(Answer::Same(a.same(b))),
+        Operation::Same(a, b) => Ok(Answer::Same(a == b)),
     }
 }

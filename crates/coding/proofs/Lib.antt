@@ -3,3 +3,4 @@ pub mod Windows
 pub mod RoundTrips
 pub mod Decoding
 pub mod OneNumber
+pub mod Folding

@@ -28,13 +28,13 @@ encoding_is_one_number w c xs pos long small =
     let ys = encoded w c xs in
     let f = bit_at w xs in
     let t = 8 * n - c * w in
-    let ly : length ys ≡ n = length_regrouped w 8 pos p8 n xs in
-    let bytes : Below 256 ys = λ j h. rw (getD_regrouped w 8 pos p8 n xs j (rw ly at h)) (bits_lt f (bit_at_bit w xs) (8 * j) 8) in
+    let ly : length ys ≡ n = length_regrouped w 8 n xs in
+    let bytes : Below 256 ys = λ j h. rw (getD_regrouped w 8 n xs j (rw ly at h)) (bits_lt f (bit_at_bit w xs) (8 * j) 8) in
     let room : 8 * n ≡ w * c + t = omega (arith, mul_comm w c) in
     let rest : bits_from f (0 + w * c) t ≡ 0 = bits_none f (0 + w * c) t (λ k h. bit_at_past w pos xs (0 + w * c + k) (rw long (omega (arith, mul_comm w c)))) in
     sym (number_of_bits 8 p8 ys bytes)
     ∙ ap (λ m. bits_from (bit_at 8 ys) 0 (8 * m)) ly
-    ∙ bits_same (bit_at 8 ys) f 0 0 (8 * n) (λ k h. regrouped_bit w 8 pos p8 n xs (0 + k) (rw (zero-add k) h))
+    ∙ bits_same (bit_at 8 ys) f 0 0 (8 * n) (λ k h. regrouped_bit w 8 n xs p8 (0 + k) (rw (zero-add k) h))
     ∙ ap (bits_from f 0) room ∙ bits_split f 0 (w * c) t
     ∙ ap (λ z. bits_from f 0 (w * c) * 2 ^ t + z) rest ∙ add-zero (bits_from f 0 (w * c) * 2 ^ t)
     ∙ ap (λ z. z * 2 ^ t) (ap (λ m. bits_from f 0 (w * m)) (sym long) ∙ number_of_bits w pos xs small)

@@ -1,7 +1,8 @@
 -- Encoding and decoding undo each other, and a block is known by its groups of bits.
-use Rattle.std.proofs.Common.{◌≡◌, ℕ, zero, suc, ◌+◌, ◌-◌, ◌*◌, ◌^◌, ◌<◌, ◌≤◌, Bool, true, false, cond, ltb, ◌≢◌, List, [], ◌∷◌, length, get_or, Ok, Err, Result, sym, refl, ap, ◌∙◌, subst, lt_of_lt_of_le, le_of_suc-le-suc, not-suc-le-zero, mul_comm, arith}
+use Rattle.std.proofs.Common.{◌≡◌, ℕ, zero, suc, ◌+◌, ◌-◌, ◌*◌, ◌^◌, ◌<◌, ◌≤◌, Bool, true, false, cond, List, [], ◌∷◌, length, get_or, Ok, Err, Result, sym, refl, ap, ◌∙◌, lt_of_lt_of_le, mul_comm, arith}
 use lib.Lanes.{Each1}
-use Rattle.std.proofs.lemmas.Bool.{eqb-true, eq-eqb, ne_eqb, lt-ltb, ltb-true}
+use Rattle.std.proofs.lemmas.Bool.{eqb-true, eq-eqb, lt-ltb}
+use Rattle.std.proofs.lemmas.Simd.{Each1-get_or, Each1-from_get_or}
 use Rattle.fault.specs.declared.Fault.{Fault}
 use Rattle.fault.specs.declared.Part.{Part}
 use Rattle.fault.specs.Faults.{fault}
@@ -15,13 +16,7 @@ abbrev pub Below : ℕ → List ℕ → Type 0
 Below q xs = (i : ℕ) → i < length xs → get_or xs i 0 < q
 
 pub each_below : (q : ℕ) (xs : List ℕ) → Each1 (λ n. n < q) xs → Below q xs
-each_below q [] t i h = absurd (not-suc-le-zero h)
-each_below q (x ∷ xs) t zero h = t.0
-each_below q (x ∷ xs) t (suc i) h = each_below q xs t.1 i (le_of_suc-le-suc h)
-
-pub below_each : (q : ℕ) (xs : List ℕ) → Below q xs → Each1 (λ n. n < q) xs
-below_each q [] b = tt
-below_each q (x ∷ xs) b = (b 0 (omega arith), below_each q xs (λ i h. b (suc i) (omega arith)))
+each_below q xs t i h = Each1-get_or (λ n. n < q) xs i 0 h t
 
 all_below : (q : ℕ) (xs : List ℕ) → Each1 (λ n. n < q) xs → below_before q xs ≡ length xs
 all_below q [] t = refl
@@ -33,19 +28,10 @@ coefficients_taken l xs c = rw (eq-eqb _ _ c.0, eq-eqb _ _ (all_below l.modulus 
 
 chosen : {A : Type 0} (b : Bool) (x : Result A Fault) (e : Fault) (a : A) → cond b x (Err e) ≡ Ok a → (b ≡ true) × (x ≡ Ok a)
 chosen true x e a h = (refl, h)
-chosen false x e a h = absurd (let z : ◌≡◌ {A = ℕ} 0 1 = cc in omega arith)
+chosen false x e a h = absurd cc
 
 same_given : {A : Type 0} (x y : A) → ◌≡◌ {A = Result A Fault} (Ok x) (Ok y) → x ≡ y
 same_given x y h = cc
-
--- where the test passes at the whole list, each number is below q
-leading_each : (q : ℕ) (xs : List ℕ) → below_before q xs ≡ length xs → Each1 (λ n. n < q) xs
-leading_each q [] e = tt
-leading_each q (x ∷ xs) e =
-    (elim (ltb x q) as (λ b. ltb x q ≡ b → cond b (1 + below_before q xs) 0 ≡ suc (length xs) → Each1 (λ n. n < q) (x ∷ xs)) [
-      | true ↦ λ h s. (ltb-true x q h, leading_each q xs (omega arith))
-      | false ↦ λ h s. let never : ⊥ = omega arith in absurd never
-    ]) refl e
 
 module _ (l : Layout) (w : ℕ) (part : Part) (bytes : List ℕ) where
   abbrev c : ℕ
@@ -55,14 +41,6 @@ module _ (l : Layout) (w : ℕ) (part : Part) (bytes : List ℕ) where
   q = l.modulus
 
   module _ (whole : length bytes ≡ encoded_size_of w l.count) where
-    pub decoded_out_of_range : (i : ℕ) → below_before l.modulus (standing w l.count bytes) ≡ i → i < l.count → decoded l w part bytes ≡ Err (fault 1 part i)
-    decoded_out_of_range i e h =
-        let n : below_before q (standing w c bytes) ≡ c → ⊥ = λ s. omega arith in
-        rw (eq-eqb _ _ whole, ne_eqb _ _ n) (ap (λ k. Err (fault 1 part k)) e)
-
-    pub decoded_padded : below_before l.modulus (standing w l.count bytes) ≡ l.count → padding w l.count bytes ≢ 0 → decoded l w part bytes ≡ Err (fault 4 part 0)
-    decoded_padded e n = rw (eq-eqb _ _ whole, eq-eqb _ _ e, ne_eqb _ _ n)
-
     pub decoded_right : below_before l.modulus (standing w l.count bytes) ≡ l.count → padding w l.count bytes ≡ 0 → decoded l w part bytes ≡ Ok (standing w l.count bytes)
     decoded_right e n = rw (eq-eqb _ _ whole, eq-eqb _ _ e, eq-eqb _ _ n)
 
@@ -97,8 +75,8 @@ module _ (l : Layout) (w : ℕ) (limits : Limits l w) where
       let back : standing w c ys ≡ xs = regrouped_back w 8 pw p8 n c xs k.0 small (λ k h i. absurd (omega arith)) in
       let rest : padding w c ys ≡ 0 =
       bits_none (bit_at 8 ys) (c * w) (8 * n - c * w)
-      (λ j h. regrouped_bit w 8 pw p8 n xs (c * w + j) (omega arith) ∙ bit_at_past w pw xs (c * w + j) (rw k.0 (omega arith))) in
-      decoded_right l w part ys (length_regrouped w 8 pw p8 n xs) (ap (below_before l.modulus) back ∙ all_below l.modulus xs k.1 ∙ k.0) rest
+      (λ j h. regrouped_bit w 8 n xs p8 (c * w + j) (omega arith) ∙ bit_at_past w pw xs (c * w + j) (rw k.0 (omega arith))) in
+      decoded_right l w part ys (length_regrouped w 8 n xs) (ap (below_before l.modulus) back ∙ all_below l.modulus xs k.1 ∙ k.0) rest
       ∙ ap Ok back
 
   -- what is decoded, encoded again, is what it was
@@ -118,26 +96,14 @@ module _ (l : Layout) (w : ℕ) (limits : Limits l w) where
       let e : c * w + (k - c * w) ≡ k = omega arith in
       ap (bit_at 8 bytes) (sym e) ∙ none_of_bits (bit_at 8 bytes) (bit_at_bit 8 bytes) (c * w) (8 * n - c * w) (k - c * w) none (omega arith))
 
-  -- the coefficients that decoding gives are coefficients
-  pub decoded_coefficients : (part : Part) (bytes xs : List ℕ) → decoded l w part bytes ≡ Ok xs → Coefficients l xs
-  decoded_coefficients part bytes xs ok =
-      let tested = decoded_tested l w part bytes xs ok in
-      let wide = width_positive in
-      let pw : 0 < w = omega arith in
-      let long : length (standing w l.count bytes) ≡ l.count = length_regrouped 8 w (omega arith) pw l.count bytes in
-      subst (Coefficients l) tested.3 (long, leading_each l.modulus (standing w l.count bytes) (tested.1 ∙ sym long))
-
   -- a block's groups of bits are coefficients
   pub block_is_coefficients : (bytes : List ℕ) → Coefficients l (block_coefficients w l.count bytes)
   block_is_coefficients bytes =
       let c = l.count in
-      let p8 : 0 < 8 = omega arith in
-      let wide = width_positive in
-      let pu : 0 < w - 1 = omega arith in
-      let long : length (block_coefficients w c bytes) ≡ c = length_regrouped 8 (w - 1) p8 pu c bytes in (
+      let long : length (block_coefficients w c bytes) ≡ c = length_regrouped 8 (w - 1) c bytes in (
         long,
-        below_each l.modulus (block_coefficients w c bytes)
-            (λ i h. rw (getD_regrouped 8 (w - 1) p8 pu c bytes i (rw long at h)) (lt_of_lt_of_le (bits_lt (bit_at 8 bytes) (bit_at_bit 8 bytes) ((w - 1) * i) (w - 1)) limits.modulus_from)),
+        Each1-from_get_or (λ n. n < l.modulus) (block_coefficients w c bytes) 0
+            (λ i h. rw (getD_regrouped 8 (w - 1) c bytes i (rw long at h)) (lt_of_lt_of_le (bits_lt (bit_at 8 bytes) (bit_at_bit 8 bytes) ((w - 1) * i) (w - 1)) limits.modulus_from)),
       )
 
   -- two blocks of n bytes, n at most B, with the same coefficients are the same block

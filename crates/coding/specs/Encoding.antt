@@ -50,13 +50,6 @@ decoded l w part bytes =
     (Err (fault 1 part (below_before l.modulus (standing w l.count bytes)))))
     (Err (fault 3 part 0))
 
--- whether the coefficients and the padding of bytes of the right size are right
-abbrev pub read_answer : Part → List ℕ → ℕ → ℕ → ℕ → Result Unit Fault
-read_answer part bytes w q c =
-    cond (below_before q (standing w c bytes) == c)
-    (cond (padding w c bytes == 0) (Ok tt) (Err (fault 4 part 0)))
-    (Err (fault 1 part (below_before q (standing w c bytes))))
-
 -- the answer of decoding: the value with the decoded coefficients, or the refusal
 abbrev pub Decoded : {V : Type 0} → Arithmetic V → Layout → ℕ → Part → List ℕ → Result V Fault → Type 0
 Decoded a l w part bytes (Ok v) = decoded l w part bytes ≡ Ok (l.by_power (a.meaning v))

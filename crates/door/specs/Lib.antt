@@ -1,4 +1,5 @@
 pub mod Calls
 pub mod Codes
 pub mod Forms
+pub mod Kinds
 pub mod Tasks

@@ -14,11 +14,7 @@ pub(crate) fn code(answer: Result<(), Fault>) -> u64
     match answer {
         Ok(()) => 0,
         Err(fault) => {
-            let place = if fault.place <= LARGEST_PLACE {
-                fault.place
-            } else {
-                LARGEST_PLACE
-            };
+            let place = fault.place.min(LARGEST_PLACE);
             fault.refusal.number() as u64 + 256 * fault.part.number() as u64 + 65536 * place as u64
         }
     }

@@ -11,12 +11,14 @@ use polynomial::PolynomialBasis;
 use prime::P4093;
 use std::alloc::{AllocError, Global};
 
-// The answer for want of memory.
+// The answer for want of memory: C has one number for every answer.
 const NO_MEMORY: u64 = u64::MAX;
 
 // The text of all lines of a shift.
 fn text_of<F: CodedField>(heap: Global, input: &[u8]) -> Result<String, AllocError>
-    ensures { IfOk result (λ s. string_bytes s ≡ page_text (shift_lines F.Field.arithmetic F.Coordinates.layout F.CodedField.bits input.now)) }
+    ensures { IfOk result (λ s. string_bytes s ≡
+        page_text (shift_lines F.arithmetic F.layout F.bits
+        input.now)) }
 {
     let lines = play::<F>(heap, input)?;
     page(heap, &lines)
@@ -25,7 +27,9 @@ fn text_of<F: CodedField>(heap: Global, input: &[u8]) -> Result<String, AllocErr
 // Plays a shift over the polynomial basis at 4093 and answers how many bytes its text has; the text is written if it fits.
 #[unsafe(no_mangle)]
 pub extern "C" fn wz_shift(heap: Global, input: &[u8], out: &mut [u8]) -> u64
-    ensures { HandsOver (page_text (shift_lines (polynomial 4093 1059 12).arithmetic (polynomial 4093 1059 12).layout (polynomial 4093 1059 12).width input.now)) out.old result out.new }
+    ensures { HandsOver (page_text (shift_lines (polynomial 4093 1059 12).arithmetic
+        (polynomial 4093 1059 12).layout (polynomial 4093 1059 12).width input.now)) out.old
+        result out.new }
 {
     match text_of::<PolynomialBasis<P4093>>(heap, input) {
         Ok(text) => {

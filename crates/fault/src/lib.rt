@@ -4,66 +4,50 @@
 ghost use Rattle.std.specs.Prelude.{◌≡◌, Some};
 ghost use Rattle.fault.specs.Faults.{fault, refusal, refusal_number, part_number, fault_text};
 
+use std::error::Error;
 use std::fmt;
 
-// Every reason for which a call can be refused, in the order of their numbers, 1 to 17.
-#[derive(Clone, Copy, Debug)]
+// Every reason for which a call can be refused, with its number.
+#[derive(Clone, Copy, Debug, PartialEq, Eq)]
 pub enum Refusal {
-    CoefficientOutOfRange,
-    ZeroHasNoInverse,
-    WrongSize,
-    PaddingNotZero,
-    WrongLength,
-    BadPads,
-    ZeroKey,
-    NumberOutOfRange,
-    TicketCancelled,
-    TicketRidden,
-    FalseTag,
-    PaperTooShort,
-    AllDrawn,
-    UnknownStub,
-    TornTape,
-    BadRecord,
-    RouteOutOfRange,
+    CoefficientOutOfRange = 1,
+    ZeroHasNoInverse = 2,
+    WrongSize = 3,
+    PaddingNotZero = 4,
+    WrongLength = 5,
+    BadPads = 6,
+    ZeroKey = 7,
+    NumberOutOfRange = 8,
+    TicketCancelled = 9,
+    TicketRidden = 10,
+    FalseTag = 11,
+    PaperTooShort = 12,
+    AllDrawn = 13,
+    UnknownStub = 14,
+    TornTape = 15,
+    BadRecord = 16,
+    RouteOutOfRange = 17,
 }
 
 impl Refusal {
-    // The number under which the refusal is documented and printed.
+    // The number under which the refusal is documented and printed; the name says more than `u8::from` would.
+    #[tactic(auto, using(crate::proofs::Numbers::refusal_of_number))]
     pub fn number(self) -> u8
         ensures number { result ≡ refusal_number self }
         ensures own { refusal result ≡ self }
     {
-        match self {
-            Refusal::CoefficientOutOfRange => 1,
-            Refusal::ZeroHasNoInverse => 2,
-            Refusal::WrongSize => 3,
-            Refusal::PaddingNotZero => 4,
-            Refusal::WrongLength => 5,
-            Refusal::BadPads => 6,
-            Refusal::ZeroKey => 7,
-            Refusal::NumberOutOfRange => 8,
-            Refusal::TicketCancelled => 9,
-            Refusal::TicketRidden => 10,
-            Refusal::FalseTag => 11,
-            Refusal::PaperTooShort => 12,
-            Refusal::AllDrawn => 13,
-            Refusal::UnknownStub => 14,
-            Refusal::TornTape => 15,
-            Refusal::BadRecord => 16,
-            Refusal::RouteOutOfRange => 17,
-        }
+        self as u8
     }
 }
 
-// What was being read when the fault was found.
-#[derive(Clone, Copy, Debug)]
+// What was being read when the fault was found, with its number.
+#[derive(Clone, Copy, Debug, PartialEq, Eq)]
 pub enum Part {
-    Call,
-    Key,
-    Pad,
-    Tag,
-    Tape,
+    Call = 0,
+    Key = 1,
+    Pad = 2,
+    Tag = 3,
+    Tape = 4,
 }
 
 impl Part {
@@ -71,19 +55,14 @@ impl Part {
     pub fn number(self) -> u8
         ensures { result ≡ part_number self }
     {
-        match self {
-            Part::Call => 0,
-            Part::Key => 1,
-            Part::Pad => 2,
-            Part::Tag => 3,
-            Part::Tape => 4,
-        }
+        self as u8
     }
 }
 
 // Why a call was refused. The place is a power of X for a coefficient out of range,
-// the first byte of the record for a fault of the tape, and 0 for every other fault.
-#[derive(Clone, Copy, Debug)]
+// the first byte of the record for a fault of the tape, and 0 for every other fault: a rule, since a fault is printed and
+// told to C with its place always.
+#[derive(Clone, Copy, Debug, PartialEq, Eq)]
 pub struct Fault {
     pub refusal: Refusal,
     pub part: Part,
@@ -101,7 +80,7 @@ impl Fault {
         }
     }
 
-    // A fault of the call itself, with no place of its own.
+    // A fault of the call itself, with no place of its own. No conversion: it is the caller that knows the part.
     pub fn of_call(refusal: Refusal) -> Fault
         ensures { result ≡ fault (refusal_number refusal) Part.Call 0 }
     {
@@ -120,3 +99,5 @@ impl fmt::Display for Fault {
         write!(f, "refused {refusal} {part} {place}")
     }
 }
+
+impl Error for Fault {}

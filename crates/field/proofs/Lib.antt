@@ -1,4 +1,3 @@
 pub mod UniqueInverses
-pub mod Building
 pub mod Transport
 pub mod Polynomials

@@ -8,7 +8,7 @@ use Rattle.field.specs.Rings.{Operations}
 use Rattle.field.specs.Quotes.{quotes, ring}
 use Rattle.field.specs.FieldTheory.{IsField, no_zero_divisor, difference_zero}
 
--- the values are pairwise different
+-- the values are pairwise different, by recursion: std's AllPairs is by places, and each proof here goes by recursion
 abbrev pub PairwiseDifferent : {A : Type 0} → List A → Type 0
 PairwiseDifferent [] = Unit {0}
 PairwiseDifferent (x ∷ xs) = AllByRecursion (λ y. x ≢ y) xs × PairwiseDifferent xs

@@ -67,6 +67,11 @@ coefficients l xs =
     (cond (below_before l.modulus xs == length xs) (Ok xs) (Err (fault 1 Call (below_before l.modulus xs))))
     (Err (fault 3 Call 0))
 
+-- The answer for a coefficient c at a power: refusal 1 at that power where c is not below the modulus.
+abbrev pub InRange : {A : Type 0} → Layout → ℕ → ℕ → Result A Fault → Type 0
+InRange l power c (Ok a) = c < l.modulus
+InRange l power c (Err f) = (l.modulus ≤ c) × (f ≡ fault 1 Call power)
+
 -- The answer that puts another coefficient c at a power of x: refusal 1 at that power where c is not below the modulus.
 abbrev pub Replaced : {V : Type 0} → Arithmetic V → Layout → V → ℕ → ℕ → Result V Fault → Type 0
 Replaced a l x power c (Ok v) = (c < l.modulus) × (l.by_power (a.meaning v) ≡ slice_set (l.by_power (a.meaning x)) power c)

@@ -1,12 +1,12 @@
 -- Coefficients by power of a quadratic extension, from those of the field below.
-use Rattle.std.specs.Prelude.{◌≡◌, ℕ, ◌+◌, ◌<◌, List, ◌++◌, length}
+use Rattle.std.specs.Prelude.{◌≡◌, ◌≢◌, ℕ, ◌+◌, ◌/◌, ◌%◌, ◌<◌, List, ◌++◌, length, slice_index, slice_set}
 use Rattle.std.proofs.Common.{sym, ap, ap₂, ◌∙◌}
 use Rattle.std.proofs.Math.Logic.{∥∥₁_map₂}
 use Rattle.field.specs.Fields.{Arithmetic, Laws}
 use Rattle.field.specs.Extensions.{extension}
 use Rattle.field.specs.Coordinates.{Layout, Coefficients, CoordinateLaws, interleaved, evens, odds, extension_layout}
 use Rattle.field.specs.Meanings.{meaning_length, meanings}
-use Rattle.field.specs.Interleaving.{front, back, length_interleaved, each_interleaved, evens_interleaved, odds_interleaved, halves_interleaved, halves_length, each_evens, each_odds, interleaved_replicate}
+use Rattle.field.specs.Interleaving.{front, back, length_interleaved, each_interleaved, evens_interleaved, odds_interleaved, even_place, odd_place, set_even_place, set_odd_place, halves_interleaved, halves_length, each_evens, each_odds, interleaved_replicate}
 
 module _ {V : Type 0} {f : Arithmetic V} {y : Layout} (l : Laws f) (k : CoordinateLaws f y) where
   -- a joined list is told by power as its two halves are
@@ -21,6 +21,29 @@ module _ {V : Type 0} {f : Arithmetic V} {y : Layout} (l : Laws f) (k : Coordina
   module _ {W : Type 0} (a0 a1 : W → V) where
     pub pair_by_power : (w : W) → (extension_layout y).by_power ((extension f a0 a1).meaning w) ≡ interleaved (y.by_power (f.meaning (a0 w))) (y.by_power (f.meaning (a1 w)))
     pair_by_power w = joined_by_power (f.meaning (a0 w)) (f.meaning (a1 w)) (l.one_length (a0 w))
+
+    -- a0 has the coefficients at even powers, a1 those at odd ones
+    pub even_coefficient : (w : W) (k : ℕ) → k % 2 ≡ 0 → slice_index ((extension_layout y).by_power ((extension f a0 a1).meaning w)) k ≡ slice_index (y.by_power (f.meaning (a0 w))) (k / 2)
+    even_coefficient w k even = ap (λ (t : List ℕ). slice_index t k) (pair_by_power w) ∙ even_place _ _ k (same_counts (a0 w) (a1 w)) even
+
+    pub odd_coefficient : (w : W) (k : ℕ) → (k % 2 ≢ 0) → slice_index ((extension_layout y).by_power ((extension f a0 a1).meaning w)) k ≡ slice_index (y.by_power (f.meaning (a1 w))) (k / 2)
+    odd_coefficient w k odd = ap (λ (t : List ℕ). slice_index t k) (pair_by_power w) ∙ odd_place _ _ k (same_counts (a0 w) (a1 w)) odd
+
+    pub even_replaced : (w z : W) (k n : ℕ) → k % 2 ≡ 0 → a1 z ≡ a1 w → y.by_power (f.meaning (a0 z)) ≡ slice_set (y.by_power (f.meaning (a0 w))) (k / 2) n →
+        (extension_layout y).by_power ((extension f a0 a1).meaning z) ≡ slice_set ((extension_layout y).by_power ((extension f a0 a1).meaning w)) k n
+    even_replaced w z k n even other set =
+        pair_by_power z
+        ∙ ap₂ (λ (s : List ℕ) (v : V). interleaved s (y.by_power (f.meaning v))) set other
+        ∙ set_even_place _ _ k n (same_counts (a0 w) (a1 w)) even
+        ∙ ap (λ (t : List ℕ). slice_set t k n) (sym (pair_by_power w))
+
+    pub odd_replaced : (w z : W) (k n : ℕ) → (k % 2 ≢ 0) → a0 z ≡ a0 w → y.by_power (f.meaning (a1 z)) ≡ slice_set (y.by_power (f.meaning (a1 w))) (k / 2) n →
+        (extension_layout y).by_power ((extension f a0 a1).meaning z) ≡ slice_set ((extension_layout y).by_power ((extension f a0 a1).meaning w)) k n
+    odd_replaced w z k n odd other set =
+        pair_by_power z
+        ∙ ap₂ (λ (v : V) (s : List ℕ). interleaved (y.by_power (f.meaning v)) s) other set
+        ∙ set_odd_place _ _ k n (same_counts (a0 w) (a1 w)) odd
+        ∙ ap (λ (t : List ℕ). slice_set t k n) (sym (pair_by_power w))
 
     pair_told : (w : W) → Coefficients (extension_layout y) ((extension_layout y).by_power ((extension f a0 a1).meaning w))
     pair_told w =

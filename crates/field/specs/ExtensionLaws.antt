@@ -1,14 +1,16 @@
 -- The laws of a field give those of its quadratic extension.
-use Rattle.std.specs.Prelude.{◌≡◌, ℕ, ◌+◌, List, [], ◌∷◌, ◌++◌, length, take, drop, slice_index_or, refl}
+use Rattle.std.specs.Prelude.{◌≡◌, Bool, ◌&&◌, ℕ, ◌+◌, List, [], ◌∷◌, ◌++◌, length, take, drop, refl}
 use Rattle.std.proofs.Math.Path.{Path}
 use Rattle.std.proofs.Common.{sym, ap, ap₂, ◌∙◌, subst, length-append}
-use Rattle.std.proofs.Math.Logic.{∥∥₁_map, ∥∥₁_map₂}
-use Rattle.field.specs.Fields.{Arithmetic, Laws, Meant}
-use Rattle.field.specs.Extensions.{extension}
+use Rattle.std.proofs.lemmas.Bool.Decides.{Decides-and}
+use Rattle.std.proofs.Math.Logic.{∥∥₁_map₂}
+use Rattle.std.proofs.Math.Seq.{take-append_seam, drop-append_seam}
+use Rattle.field.specs.Fields.{Arithmetic, Laws, Meant, EqualByMeaning}
+use Rattle.field.specs.Extensions.{extension, norm}
 use Rattle.field.specs.Rings.{Operations}
-use Rattle.field.specs.Solver.{Expression, at, e0, e1, ◌⊕◌, ◌⊗◌, ⊖◌, value, Same}
+use Rattle.field.specs.Images.{image_laws}
 use Rattle.field.specs.Quotes.{quotes, ring}
-use Rattle.field.specs.Homomorphisms.{Keeps, carry}
+use Rattle.field.specs.Homomorphisms.{Keeps}
 use Rattle.field.specs.FieldTheory.{IsField, norm_zero}
 use Rattle.field.specs.Pairs.{pairs, pairs_field, pairs_root, generator_has_no_root, norm_times}
 use Rattle.field.specs.Meanings.{Meaning, meaning_of, same_list, on_lists, meaning_length, meanings, meanings_ring, meanings_field, meaning_non_residue, meaning_root, meanings_no_root, meanings_root}
@@ -17,8 +19,7 @@ abbrev halves : ℕ → List ℕ → List ℕ × List ℕ
 halves n xs = (take n xs, drop n xs)
 
 halves_joined : (xs ys : List ℕ) → Path (List ℕ × List ℕ) (halves (length xs) (xs ++ ys)) (xs, ys)
-halves_joined [] ys = refl
-halves_joined (x ∷ xs) ys = λ i. (x ∷ (halves_joined xs ys i).0, (halves_joined xs ys i).1)
+halves_joined xs ys = λ i. (take-append_seam xs ys i, drop-append_seam xs ys i)
 
 module _ {V : Type 0} {f : Arithmetic V} (l : Laws f) {W : Type 0} (a0 a1 : W → V) where
   abbrev e : Arithmetic W
@@ -86,19 +87,15 @@ module _ {V : Type 0} {f : Arithmetic V} (l : Laws f) {W : Type 0} (a0 a1 : W �
       let q : u ≡ (o.times g (u, v)).1 = ring (meanings l) (meanings_ring l) (s ∷ u ∷ v ∷ []) (search quotes) refl in
       ap₂ (λ (b c : Meaning l). b.0 ++ c.0) p q ∙ keeps.times g (u, v)
 
-  -- the norm, calculated on meanings
-  abbrev pub norm_of : W → List ℕ
-  norm_of x = f.plus (f.times (f.meaning (a0 x)) (f.meaning (a0 x))) (f.opposite (f.times f.non_residue (f.times (f.meaning (a1 x)) (f.meaning (a1 x)))))
-
   -- with an inverse y of the norm, (a0·y, −a1·y) is an inverse
-  pub extension_inverse : (x : W) (y : V) → f.times (norm_of x) (f.meaning y) ≡ f.one →
+  pub extension_inverse : (x : W) (y : V) → f.times (norm f a0 a1 x) (f.meaning y) ≡ f.one →
       (extension f a0 a1).times ((extension f a0 a1).meaning x) (f.times (f.meaning (a0 x)) (f.meaning y) ++ f.opposite (f.times (f.meaning (a1 x)) (f.meaning y))) ≡ f.one ++ f.zero
   extension_inverse x y h =
       let m = meanings l in let b = meaning_of l y in
       let z : Pair = (m.times (pair_of x).0 b, m.opposite (m.times (pair_of x).1 b)) in
       sym (keeps.times (pair_of x) z) ∙ ap joined (norm_times m (meanings_ring l) (meaning_non_residue l) (pair_of x) b) ∙ ap (λ t. t ++ f.zero) h
 
-  pub norm_zero_means_zero : (x : W) → norm_of x ≡ f.zero → f.meaning (a0 x) ++ f.meaning (a1 x) ≡ f.zero ++ f.zero
+  pub norm_zero_means_zero : (x : W) → norm f a0 a1 x ≡ f.zero → f.meaning (a0 x) ++ f.meaning (a1 x) ≡ f.zero ++ f.zero
   norm_zero_means_zero x h =
       let z = norm_zero (meanings l) (meanings_field l) (meaning_non_residue l) (meanings_no_root l) (pair_of x).0 (pair_of x).1 (same_list l h) in
       ap₂ (λ (b c : Meaning l). b.0 ++ c.0) z.0 z.1
@@ -106,12 +103,13 @@ module _ {V : Type 0} {f : Arithmetic V} (l : Laws f) {W : Type 0} (a0 a1 : W �
   pub halves_equal : (x y : W) → (extension f a0 a1).meaning x ≡ (extension f a0 a1).meaning y → (f.meaning (a0 x) ≡ f.meaning (a0 y)) × (f.meaning (a1 x) ≡ f.meaning (a1 y))
   halves_equal x y h = let p = joined_injective (pair_of x) (pair_of y) h in (ap (λ (t : Pair). t.0.0) p, ap (λ (t : Pair). t.1.0) p)
 
+  pub extension_equal_by_meaning : {eq : V → V → Bool} → EqualByMeaning f eq → EqualByMeaning (extension f a0 a1) (λ x y. eq (a0 x) (a0 y) && eq (a1 x) (a1 y))
+  extension_equal_by_meaning {eq} h x y =
+      let d = Decides-and (eq (a0 x) (a0 y)) (eq (a1 x) (a1 y)) (h (a0 x) (a0 y)) (h (a1 x) (a1 y)) in
+      (λ e. let p = d.0 e in ap₂ ◌++◌ p.0 p.1, λ e. d.1 (halves_equal x y e))
+
   extension_field : IsField o
   extension_field = pairs_field (meanings l) (meanings_field l) (meaning_non_residue l) (meanings_no_root l)
-
-  -- an equation between ring expressions in the meanings of values
-  equation : (ws : List W) (w : W) (x y : Expression) → Same x y → value (on_lists e) (λ n. e.meaning (slice_index_or ws n w)) x ≡ value (on_lists e) (λ n. e.meaning (slice_index_or ws n w)) y
-  equation ws w x y h = carry keeps extension_field.is_ring (λ n. pair_of (slice_index_or ws n w)) x y h
 
   module _ (make : (x y : V) → (w : W) × (a0 w ≡ x) × (a1 w ≡ y)) where
     -- each pair of meanings is meant by a pair of values
@@ -119,27 +117,9 @@ module _ {V : Type 0} {f : Arithmetic V} (l : Laws f) {W : Type 0} (a0 a1 : W �
     meant p xs h = ∥∥₁_map₂ p.0.1 p.1.1 (λ v w. let m = make v.0 w.0 in (m.0, ap₂ (λ x y. f.meaning x ++ f.meaning y) m.1 m.2 ∙ ap₂ ◌++◌ v.1 w.1 ∙ h))
 
     pub extension_laws : Laws (extension f a0 a1)
-    extension_laws = record {
-      one_length = λ x. length-append (f.meaning (a0 x)) (f.meaning (a1 x)) ∙ ap₂ ◌+◌ (l.one_length (a0 x)) (l.one_length (a1 x));
-      meant_zero = meant o.zero _ refl;
-      meant_one = meant o.one _ refl;
-      meant_plus = λ x y. meant (o.plus (pair_of x) (pair_of y)) _ (keeps.plus (pair_of x) (pair_of y));
-      meant_times = λ x y. meant (o.times (pair_of x) (pair_of y)) _ (keeps.times (pair_of x) (pair_of y));
-      meant_opposite = λ x. meant (o.opposite (pair_of x)) _ (keeps.opposite (pair_of x));
-      meant_non_residue = meant ((meanings l).zero, (meanings l).one) _ refl;
-      meant_sqrt_minus_one = meant (meaning_root l, (meanings l).zero) _ refl;
-      plus_commutes = λ x y. equation (x ∷ y ∷ []) x (at 0 ⊕ at 1) (at 1 ⊕ at 0) refl;
-      plus_associates = λ x y z. equation (x ∷ y ∷ z ∷ []) x (at 0 ⊕ at 1 ⊕ at 2) (at 0 ⊕ (at 1 ⊕ at 2)) refl;
-      plus_zero = λ x. equation (x ∷ []) x (at 0 ⊕ e0) (at 0) refl;
-      plus_opposite = λ x. equation (x ∷ []) x (at 0 ⊕ ⊖ at 0) e0 refl;
-      times_commutes = λ x y. equation (x ∷ y ∷ []) x (at 0 ⊗ at 1) (at 1 ⊗ at 0) refl;
-      times_associates = λ x y z. equation (x ∷ y ∷ z ∷ []) x (at 0 ⊗ at 1 ⊗ at 2) (at 0 ⊗ (at 1 ⊗ at 2)) refl;
-      times_one = λ x. equation (x ∷ []) x (at 0 ⊗ e1) (at 0) refl;
-      distributes = λ x y z. equation (x ∷ y ∷ z ∷ []) x (at 0 ⊗ (at 1 ⊕ at 2)) (at 0 ⊗ at 1 ⊕ at 0 ⊗ at 2) refl;
-      zero_is_not_one = λ h. extension_field.zero_is_not_one (joined_injective o.zero o.one h);
-      inverse_exists = λ x n.
-          let p = extension_field.inverse (pair_of x) (λ q. n (ap joined q)) in
-          ∥∥₁_map (meant p.0 _ refl) (λ v. (v.0, ap (e.times (e.meaning x)) v.1 ∙ sym (keeps.times (pair_of x) p.0) ∙ ap joined p.1));
-      root_squared = sym (keeps.times (meaning_root l, (meanings l).zero) (meaning_root l, (meanings l).zero)) ∙ ap joined (pairs_root (meanings l) (meanings_ring l) (meaning_non_residue l) (meaning_root l) (meanings_root l)) ∙ keeps.opposite o.one;
-      non_residue_has_no_root = λ x h. generator_has_no_root (meanings l) (meanings_field l) (meaning_non_residue l) (meanings_no_root l) (meaning_root l) (meanings_root l) (pair_of x) (joined_injective _ _ (keeps.times (pair_of x) (pair_of x) ∙ h));
-    }
+    extension_laws =
+        let m = meanings l in let s = meaning_non_residue l in let i = meaning_root l in
+        image_laws extension_field e keeps joined_injective pair_of
+        (λ x. length-append (f.meaning (a0 x)) (f.meaning (a1 x)) ∙ ap₂ ◌+◌ (l.one_length (a0 x)) (l.one_length (a1 x))) meant
+        (m.zero, m.one) refl (generator_has_no_root m (meanings_field l) s (meanings_no_root l) i (meanings_root l))
+        (i, m.zero) refl (pairs_root m (meanings_ring l) s i (meanings_root l))

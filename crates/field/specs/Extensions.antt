@@ -26,6 +26,12 @@ extension f a0 a1 = record {
   sqrt_minus_one = f.sqrt_minus_one ++ f.zero;
 }
 
+-- the norm a0² − s·a1², where s is the non-residue, calculated on meanings
+abbrev pub norm : {V W : Type 0} → Arithmetic V → (W → V) → (W → V) → W → List ℕ
+norm f a0 a1 x =
+    let u = f.meaning (a0 x) in let v = f.meaning (a1 x) in
+    f.plus (f.times u u) (f.opposite (f.times f.non_residue (f.times v v)))
+
 -- The values of a tower of so many extensions on values of type V, and their arithmetic.
 abbrev pub Tower : Type 0 → ℕ → Type 0
 Tower V zero = V

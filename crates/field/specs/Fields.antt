@@ -1,5 +1,5 @@
 -- What a field is: what its values mean, how meanings are added and multiplied, and the laws that every implementation owes.
-use Rattle.std.specs.Prelude.{◌≡◌, ℕ, ◌≢◌, List, length}
+use Rattle.std.specs.Prelude.{◌≡◌, ℕ, ◌≢◌, Bool, Decides, List, length}
 
 -- A value means a list of numbers, of one length in each implementation. Values of one meaning count as the same,
 -- and the arithmetic is stated on meanings.
@@ -18,9 +18,19 @@ pub record Arithmetic (V : Type 0) : Type 0 where
 abbrev pub four_products : {V : Type 0} → Arithmetic V → List ℕ → List ℕ → List ℕ → List ℕ → List ℕ → List ℕ → List ℕ → List ℕ → List ℕ
 four_products a x k y l z m u n = a.plus (a.plus (a.times x k) (a.times y l)) (a.plus (a.times z m) (a.times u n))
 
+-- v is the sum of the products of the four pairs
+abbrev pub SumOfProducts : {V : Type 0} → Arithmetic V → V × V → V × V → V × V → V × V → V → Type 0
+SumOfProducts a x y z u v =
+    let m = a.meaning in
+    m v ≡ four_products a (m x.0) (m x.1) (m y.0) (m y.1) (m z.0) (m z.1) (m u.0) (m u.1)
+
 -- some value means xs
 abbrev pub Meant : {V : Type 0} → Arithmetic V → List ℕ → Type 0
 Meant {V = V} a xs = ∥ ((v : V) × (a.meaning v ≡ xs)) ∥₁
+
+-- eq says of every two values whether they mean the same
+abbrev pub EqualByMeaning : {V : Type 0} → Arithmetic V → (V → V → Bool) → Type 0
+EqualByMeaning {V = V} a eq = (x y : V) → Decides (eq x y) (a.meaning x ≡ a.meaning y)
 
 -- The laws of a field, over its values.
 pub record Laws {V : Type 0} (a : Arithmetic V) : Type 0 where

@@ -10,5 +10,7 @@ pub mod Homomorphisms
 pub mod FieldTheory
 pub mod Pairs
 pub mod Meanings
+pub mod Images
 pub mod ExtensionCoordinates
 pub mod Interleaving
+pub mod Quadratics

@@ -1,5 +1,5 @@
 -- A normaliser of ring expressions, and that it keeps their value: two expressions with one normal form are equal in every ring.
-use Rattle.std.specs.Prelude.{◌≡◌, ℕ, Bool, true, false, List, [], ◌∷◌, ◌++◌, nat_le}
+use Rattle.std.specs.Prelude.{◌≡◌, ℕ, Bool, true, false, List, [], ◌∷◌, ◌++◌, nat_le, cond}
 use Rattle.std.proofs.Math.Path.{refl, sym, ap, ap₂}
 use Rattle.std.proofs.Common.{◌∙◌}
 use Prim.Native.Nat.{compare, Ordering}
@@ -27,14 +27,9 @@ Polynomial = List Monomial
 abbrev pub Form : Type 0
 Form = Polynomial × Polynomial
 
--- the first where the test is true
-abbrev choose : {A : Type 0} → Bool → A → A → A
-choose true x y = x
-choose false x y = y
-
 abbrev insert : ℕ → Monomial → Monomial
 insert n [] = n ∷ []
-insert n (m ∷ ms) = let later = m ∷ insert n ms in choose (nat_le n m) (n ∷ m ∷ ms) later
+insert n (m ∷ ms) = let later = m ∷ insert n ms in cond (nat_le n m) (n ∷ m ∷ ms) later
 
 abbrev mono_times : Monomial → Monomial → Monomial
 mono_times [] n = n
@@ -75,7 +70,7 @@ before (x ∷ m) (y ∷ n) = on (compare x y) (before m n)
 
 abbrev put : Monomial → Polynomial → Polynomial
 put m [] = m ∷ []
-put m (n ∷ p) = let later = n ∷ put m p in choose (before m n) (m ∷ n ∷ p) later
+put m (n ∷ p) = let later = n ∷ put m p in cond (before m n) (m ∷ n ∷ p) later
 
 abbrev pub sort : Polynomial → Polynomial
 sort [] = []
@@ -112,7 +107,7 @@ module _ {A : Type 0} (o : Operations A) where
   module _ (r : Ring o) (ρ : ℕ → A) where
     open r use {plus_commutes, plus_associates, plus_zero, plus_opposite, times_commutes, times_associates, times_one, distributes}
 
-    choose_mono : (b : Bool) (m n : Monomial) (x : A) → mono_value ρ m ≡ x → mono_value ρ n ≡ x → mono_value ρ (choose b m n) ≡ x
+    choose_mono : (b : Bool) (m n : Monomial) (x : A) → mono_value ρ m ≡ x → mono_value ρ n ≡ x → mono_value ρ (cond b m n) ≡ x
     choose_mono true m n x p q = p
     choose_mono false m n x p q = q
 
@@ -143,7 +138,7 @@ module _ {A : Type 0} (o : Operations A) where
     poly_times_value [] q = sym (zero_times o r _)
     poly_times_value (m ∷ p) q = append_value (row m q) (poly_times p q) ∙ ap₂ ◌+◌ (row_value m q) (poly_times_value p q) ∙ sym (distributes_right o r _ _ _)
 
-    choose_poly : (b : Bool) (p q : Polynomial) (x : A) → poly_value ρ p ≡ x → poly_value ρ q ≡ x → poly_value ρ (choose b p q) ≡ x
+    choose_poly : (b : Bool) (p q : Polynomial) (x : A) → poly_value ρ p ≡ x → poly_value ρ q ≡ x → poly_value ρ (cond b p q) ≡ x
     choose_poly true m n x p q = p
     choose_poly false m n x p q = q
 

@@ -1,22 +1,35 @@
 //! The quadratic extension of any field.
-ghost use Rattle.field.specs.Extensions.{extension};
-ghost use Rattle.std.specs.Prelude.{refl};
-ghost use Rattle.field.specs.ExtensionLaws.{extension_laws};
+ghost use Rattle.std.specs.Prelude.{◌≡◌};
+ghost use Rattle.field.specs.Extensions.{norm};
+ghost use Rattle.field.specs.Quadratics.{quadratic, quadratic_laws, quadratic_equal_by_meaning};
 
 use super::interface::Field;
 use fault::Fault;
 
 // a0 + a1·g, where g·g is the non-residue of the field below.
-#[derive(Clone, Copy)]
+#[derive(Clone, Copy, PartialEq)]
 pub struct Quadratic<F> {
     pub a0: F,
     pub a1: F,
 }
 
-impl<F: Field> Field for Quadratic<F> {
-    ghost arithmetic = { extension F.Field.arithmetic (λ x. x.a0) (λ x. x.a1) };
+impl<F: Field> Quadratic<F> {
+    // a0² − s·a1², where s is the non-residue below.
+    fn norm(self) -> F
+        ensures { F.arithmetic.meaning result ≡ norm F.arithmetic (λ x. x.a0) (λ x. x.a1) self }
+    {
+        let low = self.a0.square();
+        let high = self.a1.square();
+        low.add(high.mul_by_non_residue().neg())
+    }
+}
 
-    ghost laws = { extension_laws F.Field.laws (λ x. x.a0) (λ x. x.a1) (λ x y. (record { a0 = x; a1 = y }, refl, refl)) };
+impl<F: Field> Field for Quadratic<F> {
+    ghost arithmetic = { quadratic F.arithmetic };
+
+    ghost laws = { quadratic_laws F.Field.laws };
+
+    ghost equal_by_meaning = { quadratic_equal_by_meaning F.Field.laws F.Field.equal_by_meaning };
 
     fn zero() -> Self {
         Quadratic {
@@ -67,12 +80,9 @@ impl<F: Field> Field for Quadratic<F> {
         }
     }
 
-    // a0/d − (a1/d)·g, where d = a0² − s·a1² is the norm and s the non-residue below.
+    // a0/d − (a1/d)·g, where d is the norm.
     fn inverse(self) -> Result<Self, Fault> {
-        let low = self.a0.square();
-        let high = self.a1.square();
-        let norm = low.add(high.mul_by_non_residue().neg());
-        let factor = norm.inverse()?;
+        let factor = self.norm().inverse()?;
         Ok(Quadratic {
             a0: self.a0.mul(factor),
             a1: self.a1.mul(factor).neg(),
@@ -99,9 +109,5 @@ impl<F: Field> Field for Quadratic<F> {
             a0: F::sqrt_minus_one(),
             a1: F::zero(),
         }
-    }
-
-    fn same(self, other: Self) -> bool {
-        self.a0.same(other.a0) && self.a1.same(other.a1)
     }
 }

@@ -1,12 +1,12 @@
 //! The interface of a field.
-ghost use Rattle.std.specs.Prelude.{◌≡◌, true};
-ghost use Rattle.field.specs.Fields.{Arithmetic, Laws, four_products};
+ghost use Rattle.std.specs.Prelude.{◌≡◌};
+ghost use Rattle.field.specs.Fields.{Arithmetic, Laws, EqualByMeaning, SumOfProducts};
 ghost use Rattle.field.specs.Inverses.{InverseAnswer, UniqueInversesAtEveryHeight};
 
 use fault::Fault;
 
 // The values of a field. A value means a list of numbers, and two values of one meaning count as the same.
-pub trait Field: Copy {
+pub trait Field: Copy + PartialEq {
     ghost arithmetic: { Arithmetic Self };
 
     fn zero() -> Self
@@ -28,24 +28,21 @@ pub trait Field: Copy {
     fn square(self) -> Self
         ensures { arithmetic.meaning result ≡ arithmetic.times (arithmetic.meaning self) (arithmetic.meaning self) };
 
-    // a·k + b·l + c·m + d·n. An implementation may reduce the sum once; where factors stay the same over a loop,
-    // they should be the second ones.
+    // The sum of the products of the four pairs. An implementation may reduce the sum once; where factors stay
+    // the same over a loop, they should be the second ones. Four pairs and no list, since so many products fit where they
+    // are gathered; by reference, since the check gives an implementation on a generic type no clause on pairs by value.
     fn sum_of_products(
-        a: Self,
-        k: Self,
-        b: Self,
-        l: Self,
-        c: Self,
-        m: Self,
-        d: Self,
-        n: Self,
+        a: &(Self, Self),
+        b: &(Self, Self),
+        c: &(Self, Self),
+        d: &(Self, Self),
     ) -> Self
     where
         Self: Sized,
-        ensures { arithmetic.meaning result ≡ four_products arithmetic (arithmetic.meaning a) (arithmetic.meaning k) (arithmetic.meaning b) (arithmetic.meaning l) (arithmetic.meaning c) (arithmetic.meaning m) (arithmetic.meaning d) (arithmetic.meaning n) }
+        ensures { SumOfProducts arithmetic a.now b.now c.now d.now result }
     {
-        let first = a.mul(k).add(b.mul(l));
-        let last = c.mul(m).add(d.mul(n));
+        let first = a.0.mul(a.1).add(b.0.mul(b.1));
+        let last = c.0.mul(c.1).add(d.0.mul(d.1));
         first.add(last)
     }
 
@@ -64,17 +61,16 @@ pub trait Field: Copy {
     fn sqrt_minus_one() -> Self
         ensures { arithmetic.meaning result ≡ arithmetic.sqrt_minus_one };
 
-    // Whether the two values mean the same.
-    fn same(self, other: Self) -> bool
-        ensures { (result ≡ true → arithmetic.meaning self ≡ arithmetic.meaning other) × (arithmetic.meaning self ≡ arithmetic.meaning other → result ≡ true) };
-
     ghost laws: { Laws arithmetic };
+
+    // Two values are equal where they mean the same.
+    ghost equal_by_meaning: { EqualByMeaning arithmetic Self.eq };
 }
 
 // The inverse of a value of any field. In that field, and in the tower of each height on it, it is the only one.
 pub fn invert<F: Field>(x: F) -> Result<F, Fault>
-    ensures answer { InverseAnswer F.Field.arithmetic x result }
-    ensures unique_at_every_height { UniqueInversesAtEveryHeight F.Field.arithmetic }
+    ensures answer { InverseAnswer F.arithmetic x result }
+    ensures unique_at_every_height { UniqueInversesAtEveryHeight F.arithmetic }
 {
     x.inverse()
 }

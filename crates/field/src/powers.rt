@@ -1,7 +1,7 @@
 //! Coefficients by power of X.
-ghost use Rattle.std.specs.Prelude.{◌≡◌, ◌==◌, slice_index, refl};
-ghost use Rattle.field.specs.Coordinates.{Layout, CoordinateLaws, Replaced, Built, extension_layout};
-ghost use Rattle.field.specs.ExtensionCoordinates.{extension_coordinate_laws};
+ghost use Rattle.std.specs.Prelude.{◌≡◌, ◌==◌, slice_index};
+ghost use Rattle.field.specs.Coordinates.{Layout, CoordinateLaws, InRange, Replaced, Built, extension_layout};
+ghost use Rattle.field.specs.Quadratics.{quadratic_coordinates};
 
 use super::extension::Quadratic;
 use super::interface::Field;
@@ -18,41 +18,52 @@ pub trait Coordinates: Field {
     fn has_count(count: usize) -> bool
         ensures { result ≡ (count == layout.count) };
 
+    // Refuses a number that is not below the modulus with 1 at that power.
+    fn check_range(power: usize, coefficient: u16) -> Result<(), Fault>
+        ensures { InRange layout power coefficient result }
+    {
+        if coefficient < Self::modulus() {
+            Ok(())
+        } else {
+            Err(Fault::new(Refusal::CoefficientOutOfRange, Part::Call, power))
+        }
+    }
+
     // The coefficient at a power, and 0 where the value has none there.
     fn coefficient(self, power: usize) -> u16
-        ensures { result ≡ slice_index (layout.by_power (Self.Field.arithmetic.meaning self)) power };
+        ensures { result ≡ slice_index (layout.by_power (Self.arithmetic.meaning self)) power };
 
     // The value with another coefficient at a power, and the same value where it has none there.
     // A number that is not below the modulus is refused with 1 at that power.
     fn with_coefficient(self, power: usize, coefficient: u16) -> Result<Self, Fault>
     where
         Self: Sized,
-        ensures { Replaced Self.Field.arithmetic layout self power coefficient result };
+        ensures { Replaced Self.arithmetic layout self power coefficient result };
 
     // The value with these coefficients by power: refused with 3 for another count of them than a value has,
     // then with 1 at the first power whose coefficient is not below the modulus.
     fn from_coefficients(coefficients: &[u16]) -> Result<Self, Fault>
     where
         Self: Sized,
-        ensures { Built Self.Field.arithmetic layout coefficients.now result }
+        ensures { Built Self.arithmetic layout coefficients.now result }
     {
         if !Self::has_count(coefficients.len()) {
             return Err(Fault::of_call(Refusal::WrongSize));
         }
         let mut value = Self::zero();
-        for (power, coefficient) in coefficients.iter().enumerate() {
-            value = value.with_coefficient(power, *coefficient)?;
+        for (power, &coefficient) in coefficients.iter().enumerate() {
+            value = value.with_coefficient(power, coefficient)?;
         }
         Ok(value)
     }
 
-    ghost coordinates: { CoordinateLaws Self.Field.arithmetic layout };
+    ghost coordinates: { CoordinateLaws Self.arithmetic layout };
 }
 
 impl<F: Coordinates> Coordinates for Quadratic<F> {
-    ghost layout = { extension_layout F.Coordinates.layout };
+    ghost layout = { extension_layout F.layout };
 
-    ghost coordinates = { extension_coordinate_laws F.Field.laws F.Coordinates.coordinates (λ x. x.a0) (λ x. x.a1) (λ x z. (record { a0 = x; a1 = z }, refl, refl)) };
+    ghost coordinates = { quadratic_coordinates F.Field.laws F.Coordinates.coordinates };
 
     fn modulus() -> u16 {
         F::modulus()
@@ -71,15 +82,13 @@ impl<F: Coordinates> Coordinates for Quadratic<F> {
     }
 
     fn with_coefficient(self, power: usize, coefficient: u16) -> Result<Self, Fault> {
-        if coefficient >= F::modulus() {
-            return Err(Fault::new(Refusal::CoefficientOutOfRange, Part::Call, power));
-        }
+        Self::check_range(power, coefficient)?;
         if power % 2 == 0 {
             let a0 = self.a0.with_coefficient(power / 2, coefficient)?;
-            Ok(Quadratic { a0, a1: self.a1 })
+            Ok(Quadratic { a0, ..self })
         } else {
             let a1 = self.a1.with_coefficient(power / 2, coefficient)?;
-            Ok(Quadratic { a0: self.a0, a1 })
+            Ok(Quadratic { a1, ..self })
         }
     }
 }

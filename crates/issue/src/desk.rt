@@ -1,21 +1,23 @@
 //! The desk: follows the orders, with one issuer.
-use super::lines::Line;
 use super::orders::Order;
 use super::problems::Problem;
-use super::words;
-use coding::CodedField;
+use coding::{CodedField, encoded_size};
 use issuer::Issuer;
 use polynomial::PolynomialBasis;
 use prime::P4093;
 use std::alloc::{AllocError, Global};
+use tag::LONGEST_BODY;
+use wording::{Line, Misreading, hexadecimal};
 
-// The bytes of the longest ticket.
-const LONGEST_TICKET: usize = 452;
+// The longest line that is read, in bytes, without its end: 1024 pads take 24581.
+pub(crate) const LONGEST_LINE: u32 = 32768;
+
+type Field = PolynomialBasis<P4093>;
 
 // What is kept from line to line: the issuer once its key is taken, and the pads that were given last.
 #[derive(Drop)]
 pub(crate) struct Desk {
-    issuer: Option<Issuer<PolynomialBasis<P4093>>>,
+    issuer: Option<Issuer<Field>>,
     pads: Option<Vec<u8>>,
 }
 
@@ -27,32 +29,34 @@ impl Desk {
         }
     }
 
-    // Follows a line; its answer, if it has one, is added to `answers`.
+    // Follows a line, and answers with a line; with nothing where there is no answer.
+    // The calculator has these arms too, over its own problems: a trait for both would be longer than they are.
     pub(crate) fn take(
         &mut self,
         heap: Global,
-        line: &Line,
-        answers: &mut String,
-    ) -> Result<(), AllocError> {
-        let answer = match self.follow(heap, line) {
-            Ok(None) => return Ok(()),
-            Ok(Some(text)) => text,
-            Err(Problem::OutOfMemory) => return Err(AllocError),
-            Err(problem) => format!(in heap; "{problem}")?,
-        };
-        answers.push_str(answer.as_str())?;
-        answers.push('\n')
+        line: &Line<LONGEST_LINE>,
+    ) -> Result<String, AllocError> {
+        match self.follow(heap, line) {
+            Ok(None) => Ok(String::new(heap)),
+            Ok(Some(text)) => format!(in heap; "{text}\n"),
+            Err(Problem::OutOfMemory(error) | Problem::Misread(Misreading::OutOfMemory(error))) => {
+                Err(error)
+            }
+            Err(problem) => format!(in heap; "{problem}\n"),
+        }
     }
 
-    fn follow(&mut self, heap: Global, line: &Line) -> Result<Option<String>, Problem> {
+    fn follow(
+        &mut self,
+        heap: Global,
+        line: &Line<LONGEST_LINE>,
+    ) -> Result<Option<String>, Problem> {
         let Some(text) = line.text()? else {
             return Ok(None);
         };
         match Order::read(heap, text)? {
+            Order::Key(_) if self.issuer.is_some() => Err(Problem::KeyAlreadyGiven),
             Order::Key(key) => {
-                if self.issuer.is_some() {
-                    return Err(Problem::KeyAlreadyGiven);
-                }
                 Issuer::make(&mut self.issuer, &key)?;
                 Ok(None)
             }
@@ -61,32 +65,26 @@ impl Desk {
                 Ok(None)
             }
             Order::Seal(route, text) => {
-                let Some(issuer) = &mut self.issuer else {
-                    return Err(Problem::NoKey);
-                };
-                let Some(pads) = &self.pads else {
-                    return Err(Problem::NoPads);
-                };
+                let (issuer, pads) = self.key_and_pads()?;
                 Ok(Some(seal(heap, issuer, pads, route, &text)?))
             }
             Order::Void => {
-                let Some(issuer) = &mut self.issuer else {
-                    return Err(Problem::NoKey);
-                };
-                let Some(pads) = &self.pads else {
-                    return Err(Problem::NoPads);
-                };
+                let (issuer, pads) = self.key_and_pads()?;
                 Ok(Some(void(heap, issuer, pads)?))
             }
         }
     }
 
+    // The issuer that has the key, and the pads, once both are given.
+    fn key_and_pads(&mut self) -> Result<(&mut Issuer<Field>, &[u8]), Problem> {
+        let issuer = self.issuer.as_mut().ok_or(Problem::NoKey)?;
+        let pads = self.pads.as_ref().ok_or(Problem::NoPads)?;
+        Ok((issuer, pads))
+    }
+
     // The last answer.
     pub(crate) fn tally(&self, heap: Global) -> Result<String, AllocError> {
-        let (drawn, sealed, voided) = match &self.issuer {
-            Some(issuer) => issuer.tally(),
-            None => (0, 0, 0),
-        };
+        let (drawn, sealed, voided) = self.issuer.as_ref().map_or((0, 0, 0), Issuer::tally);
         format!(in heap; "tally {drawn} {sealed} {voided}\n")
     }
 }
@@ -98,11 +96,12 @@ fn seal<F: CodedField>(
     route: u8,
     text: &[u8],
 ) -> Result<String, Problem> {
-    let mut paper = [0u8; LONGEST_TICKET];
+    let mut paper = vec![in heap; 0; LONGEST_BODY + encoded_size::<F>()]?;
     let stub = issuer.draw(pads)?;
     let number = stub.number();
     let size = issuer.seal(stub, route, text, pads, &mut paper)?;
-    let ticket = words::first_bytes(heap, &paper, size)?;
+    paper.truncate(size);
+    let ticket = hexadecimal(heap, &paper)?;
     Ok(format!(in heap; "{number} sealed {ticket}")?)
 }
 

@@ -2,41 +2,31 @@
 #![tactic(auto)]
 
 mod desk;
-mod lines;
 mod orders;
 mod problems;
-mod words;
 
-use desk::Desk;
-use lines::Line;
-use std::io::{Read, Write};
+use desk::{Desk, LONGEST_LINE};
+use std::io::{BufReader, Read, Write};
+use wording::Line;
 
 fn main(rt: HostRuntime) -> anyhow::Result<()> {
     let heap = rt.alloc();
-    let mut input = rt.stdin();
     let mut output = rt.stdout();
     let mut desk = Desk::new();
-    let mut line = Line::new(heap);
-    let mut chunk = [0u8; 4096];
-    for _ in 0..u64::MAX {
-        let count = input.read(&mut chunk)?;
-        if count == 0 {
-            break;
-        }
-        let mut answers = String::new(heap);
-        for byte in &chunk[0..count] {
-            if *byte == b'\n' {
-                desk.take(heap, &line, &mut answers)?;
+    let mut line: Line<LONGEST_LINE> = Line::new(heap);
+    // Both programs of lines have this loop: shared, it would be a public function, and no contract can say what it reads and
+    // writes.
+    for byte in BufReader::new(heap, rt.stdin())?.bytes() {
+        match byte? {
+            b'\n' => {
+                output.write_all(desk.take(heap, &line)?.as_bytes())?;
                 line.clear();
-            } else {
-                line.push(*byte)?;
             }
+            byte => line.push(byte)?,
         }
-        output.write_all(answers.as_bytes())?;
     }
-    let mut last = String::new(heap);
-    desk.take(heap, &line, &mut last)?;
-    last.push_str(desk.tally(heap)?.as_str())?;
-    output.write_all(last.as_bytes())?;
+    // the last line may lack its newline
+    output.write_all(desk.take(heap, &line)?.as_bytes())?;
+    output.write_all(desk.tally(heap)?.as_bytes())?;
     Ok(())
 }

@@ -1,7 +1,7 @@
 //! Orders: what a line asks for.
 use super::problems::Problem;
-use super::words;
 use std::alloc::Global;
+use wording::{bytes, small_number};
 
 #[derive(Drop)]
 pub(crate) enum Order {
@@ -13,35 +13,17 @@ pub(crate) enum Order {
 
 impl Order {
     pub(crate) fn read(heap: Global, text: &str) -> Result<Order, Problem> {
-        let mut rest = text.split(' ');
-        let name = rest.next().unwrap_or("");
-        let arguments: Vec<&str> = rest.collect(heap)?;
-        match name {
-            "key" => Ok(Order::Key(only_bytes(heap, &arguments)?)),
-            "pads" => Ok(Order::Pads(only_bytes(heap, &arguments)?)),
-            "seal" => seal(heap, &arguments),
-            "void" => match arguments.is_empty() {
-                true => Ok(Order::Void),
-                false => Err(Problem::WrongNumberOfArguments),
-            },
+        let mut words = text.split(' ');
+        let name = words.next().unwrap_or("");
+        let arguments: Vec<&str> = words.collect(heap)?;
+        match (name, arguments.as_slice()) {
+            ("key", [key]) => Ok(Order::Key(bytes(heap, key)?)),
+            ("pads", [pads]) => Ok(Order::Pads(bytes(heap, pads)?)),
+            // a route over 255 counts as 255, which is no route either
+            ("seal", [route, text]) => Ok(Order::Seal(small_number(route)?, bytes(heap, text)?)),
+            ("void", []) => Ok(Order::Void),
+            ("key" | "pads" | "seal" | "void", _) => Err(Problem::WrongNumberOfArguments),
             _ => Err(Problem::NoSuchOrder),
         }
-    }
-}
-
-fn only_bytes(heap: Global, arguments: &[&str]) -> Result<Vec<u8>, Problem> {
-    match arguments {
-        [bytes] => words::bytes(heap, bytes),
-        _ => Err(Problem::WrongNumberOfArguments),
-    }
-}
-
-fn seal(heap: Global, arguments: &[&str]) -> Result<Order, Problem> {
-    match arguments {
-        [route, text] => {
-            let route = words::route(route)?;
-            Ok(Order::Seal(route, words::bytes(heap, text)?))
-        }
-        _ => Err(Problem::WrongNumberOfArguments),
     }
 }

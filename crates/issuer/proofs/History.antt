@@ -1,10 +1,13 @@
 -- What every issuer keeps that calls lead to.
-use Rattle.std.proofs.Common.{◌≡◌, ℕ, zero, suc, ◌+◌, ◌*◌, ◌/◌, ◌<◌, ◌≤◌, Bool, true, false, cond, eqb, ltb, leb, ◌≢◌, List, [], ◌∷◌, ◌++◌, length, get_or, set, replicate, Ok, Err, Result, sym, refl, ap, ◌∙◌, subst, ⊎_elim, arith}
-use Rattle.std.specs.List.{range_with_len, AllByRecursion}
+use Rattle.std.proofs.Common.{◌≡◌, ℕ, ◌+◌, ◌<◌, ◌≤◌, Bool, true, false, cond, ltb, ◌≢◌, List, [], ◌∷◌, ◌++◌, length, get_or, set, replicate, Ok, Err, Result, sym, refl, ap, ◌∙◌, subst, ⊎_elim, arith}
+use Rattle.std.specs.List.{range_with_len, All}
 use Rattle.std.proofs.lemmas.List.FromFn.{map-range_with_len_more}
-use Rattle.std.proofs.ByRecursion.{All-push, All-weaker}
+use Rattle.std.proofs.lemmas.List.Elements.{All-nil, All-push, All-weaker}
+use Rattle.std.proofs.lemmas.List.Quantifiers.{all_pairs_push}
 use Rattle.std.proofs.lemmas.List.{append-nil, length_push, length-set, length-replicate, get_or-replicate, get_or_past, get_or-set_same, get_or-set_other, map-id}
-use Rattle.std.proofs.lemmas.Bool.{cases_eq, cases_lt, ltb-true, leb-true}
+use Rattle.std.proofs.lemmas.List.Sums.{prefix_len_is}
+use Rattle.std.proofs.lemmas.Bool.{cases_eq, cases_lt, ltb-true}
+use Rattle.std.proofs.lemmas.Grind.{common_steps}
 use Rattle.fault.specs.declared.Fault.{Fault}
 use Rattle.fault.specs.declared.Part.TheVariants.{Call}
 use Rattle.fault.specs.Faults.{fault}
@@ -24,33 +27,15 @@ use Rattle.issuer.specs.Histories.{number_given, number_sealed, Different, Reach
 counting_next : (n : ℕ) → range_with_len 0 n ++ n ∷ [] ≡ range_with_len 0 (n + 1)
 counting_next n = ap (λ xs. xs ++ n ∷ []) (sym (map-id (range_with_len 0 n))) ∙ sym (map-range_with_len_more (λ x. x) 0 n n (omega arith)) ∙ map-id (range_with_len 0 (n + 1))
 
-different_push : (xs : List ℕ) (y : ℕ) → Different xs → AllByRecursion (λ x. x ≢ y) xs → Different (xs ++ y ∷ [])
-different_push [] y d h = (tt, tt)
-different_push (x ∷ xs) y d h = (All-push (λ z. x ≢ z) xs y d.0 h.0, different_push xs y d.1 h.1)
-
--- where just the first k numbers are drawn, k is the lowest that is not
-lowest_is : (marks : List Mark) (k : ℕ) → ((n : ℕ) → n < k → was_drawn (get_or marks n Undrawn) ≡ true) → was_drawn (get_or marks k Undrawn) ≡ false → lowest_undrawn marks ≡ k
-lowest_is [] zero below above = refl
-lowest_is [] (suc k) below above = absurd (let e : false ≡ true = below 0 (omega arith) in let z : ◌≡◌ {A = ℕ} 0 1 = cc in omega arith)
-lowest_is (m ∷ ms) zero below above = ap (λ b. cond b (1 + lowest_undrawn ms) 0) above
-lowest_is (m ∷ ms) (suc k) below above =
-    ap (λ b. cond b (1 + lowest_undrawn ms) 0) (below 0 (omega arith)) ∙ omega (arith, lowest_is ms k (λ n h. below (suc n) (omega arith)) above)
-
 -- pads that are counted are 1024 at most
 pads_within : (T n N : ℕ) → pads_answer T n ≡ Ok N → N ≤ 1024
-pads_within T n N h = go (eqb (n / T * T) n) (leb 1 (n / T)) (leb (n / T) 1024) (λ e. leb-true _ _ e) h
-  where
-    go : (b d e : Bool) → (e ≡ true → n / T ≤ 1024) → ◌≡◌ {A = Result ℕ Fault} (cond b (cond d (cond e (Ok (n / T)) (Err (fault 6 Call 0))) (Err (fault 6 Call 0))) (Err (fault 6 Call 0))) (Ok N) → N ≤ 1024
-    go true true true le s = let same : n / T ≡ N = cc in omega (arith, le refl)
-    go true true false le s = absurd (let z : ◌≡◌ {A = ℕ} 0 1 = cc in omega arith)
-    go true false e le s = absurd (let z : ◌≡◌ {A = ℕ} 0 1 = cc in omega arith)
-    go false d e le s = absurd (let z : ◌≡◌ {A = ℕ} 0 1 = cc in omega arith)
+pads_within T n N h = grind (arith, common_steps)
 
 is_drawn_only : (m : Mark) → is_drawn m ≡ true → m ≡ Drawn
-is_drawn_only Undrawn e = absurd (let z : ◌≡◌ {A = ℕ} 0 1 = cc in omega arith)
+is_drawn_only Undrawn e = cc
 is_drawn_only Drawn e = refl
-is_drawn_only Sealed e = absurd (let z : ◌≡◌ {A = ℕ} 0 1 = cc in omega arith)
-is_drawn_only Void e = absurd (let z : ◌≡◌ {A = ℕ} 0 1 = cc in omega arith)
+is_drawn_only Sealed e = cc
+is_drawn_only Void e = cc
 
 module _ {V : Type 0} where
   -- the first numbers are drawn, one for each stub given, and no others; what was sealed is marked so
@@ -59,15 +44,11 @@ module _ {V : Type 0} where
     numbered : given ≡ range_with_len 0 (length given)
     below : (n : ℕ) → n < length given → was_drawn (get_or issuer.marks n Undrawn) ≡ true
     above : (n : ℕ) → length given ≤ n → was_drawn (get_or issuer.marks n Undrawn) ≡ false
-    marks : AllByRecursion (λ n. get_or issuer.marks n Undrawn ≡ Sealed) sealed
+    marks : All (λ n. get_or issuer.marks n Undrawn ≡ Sealed) sealed
     different : Different sealed
 
   in_hand_drawn : (issuer : Issuer V) (n : ℕ) → is_in_hand issuer n ≡ true → (n < 1024) × (get_or issuer.marks n Undrawn ≡ Drawn)
-  in_hand_drawn issuer n h = go (ltb n 1024) (λ e. ltb-true _ _ e) h
-    where
-      go : (b : Bool) → (b ≡ true → n < 1024) → cond b (is_drawn (get_or issuer.marks n Undrawn)) false ≡ true → (n < 1024) × (get_or issuer.marks n Undrawn ≡ Drawn)
-      go true lt e = (lt refl, is_drawn_only _ e)
-      go false lt e = absurd (let z : ◌≡◌ {A = ℕ} 0 1 = cc in omega arith)
+  in_hand_drawn issuer n h = grind (arith, common_steps, is_drawn_only)
 
   module _ (given sealed : List ℕ) (issuer : Issuer V) (kept : Kept given sealed issuer) (n : ℕ) where
     abbrev at : ℕ → Mark
@@ -80,22 +61,22 @@ module _ {V : Type 0} where
     here m h = get_or-set_same issuer.marks n m Undrawn (omega (arith, kept.whole))
 
     -- no number with another mark was sealed
-    not_sealed : at n ≢ Sealed → AllByRecursion (λ k. k ≢ n) sealed
+    not_sealed : at n ≢ Sealed → All (λ k. k ≢ n) sealed
     not_sealed ne = All-weaker (λ k. at k ≡ Sealed) (λ k. k ≢ n) (λ k s e. ne (ap at (sym e) ∙ s)) sealed kept.marks
 
-    still_sealed : (m : Mark) → at n ≢ Sealed → AllByRecursion (λ k. get_or (set issuer.marks n m) k Undrawn ≡ Sealed) sealed
+    still_sealed : (m : Mark) → at n ≢ Sealed → All (λ k. get_or (set issuer.marks n m) k Undrawn ≡ Sealed) sealed
     still_sealed m ne = All-weaker (λ k. at k ≡ Sealed) _ (λ k s. other m k (λ e. ne (ap at (sym e) ∙ s)) ∙ s) sealed kept.marks
 
     -- a number in hand gets another mark
     settled : is_in_hand issuer n ≡ true → (m : Mark) → was_drawn m ≡ true → Kept given sealed (marked issuer n m)
     settled h m d =
         let was = in_hand_drawn issuer n h in
-        let ne : at n ≢ Sealed = λ e. let s = was.1 in let z : ◌≡◌ {A = ℕ} 0 1 = cc in omega arith in
+        let ne : at n ≢ Sealed = λ e. let s = was.1 in cc in
         record {
           whole = length-set issuer.marks n m ∙ kept.whole;
           numbered = kept.numbered;
           below = λ k lt. ⊎_elim (λ e. ap (λ j. was_drawn (get_or (set issuer.marks n m) j Undrawn)) e ∙ ap was_drawn (here m was.0) ∙ d) (λ ne. ap was_drawn (other m k ne) ∙ kept.below k lt) (cases_eq k n);
-          above = λ k le. ap was_drawn (other m k (λ e. let x = kept.above k le in let y : was_drawn (at k) ≡ true = ap (λ j. was_drawn (at j)) e ∙ ap was_drawn was.1 in let z : ◌≡◌ {A = ℕ} 0 1 = cc in omega arith)) ∙ kept.above k le;
+          above = λ k le. ap was_drawn (other m k (λ e. let x = kept.above k le in let y : was_drawn (at k) ≡ true = ap (λ j. was_drawn (at j)) e ∙ ap was_drawn was.1 in cc)) ∙ kept.above k le;
           marks = still_sealed m ne;
           different = kept.different;
         }
@@ -105,23 +86,26 @@ module _ {V : Type 0} where
     sealed_now h =
         let was = in_hand_drawn issuer n h in
         let s = settled h Sealed refl in
-        let ne : at n ≢ Sealed = λ e. let s = was.1 in let z : ◌≡◌ {A = ℕ} 0 1 = cc in omega arith in
+        let ne : at n ≢ Sealed = λ e. let s = was.1 in cc in
         record {
           whole = s.whole;
           numbered = s.numbered;
           below = s.below;
           above = s.above;
-          marks = All-push _ sealed n s.marks (here Sealed was.0);
-          different = different_push sealed n kept.different (not_sealed ne);
+          marks = All-push (λ k. get_or (set issuer.marks n Sealed) k Undrawn ≡ Sealed) sealed n s.marks (here Sealed was.0);
+          different = all_pairs_push (λ x y. x ≢ y) sealed n kept.different (not_sealed ne);
         }
 
     -- a number is drawn
     drawn_now : n < 1024 → n ≡ lowest_undrawn issuer.marks → Kept (given ++ n ∷ []) sealed (marked issuer n Drawn)
     drawn_now lt low =
         let k = length given in
-        let next : n ≡ k = low ∙ lowest_is issuer.marks k kept.below (kept.above k (omega arith)) in
+        let m = length issuer.marks in
+        let past : get_or issuer.marks m Undrawn ≡ Undrawn = get_or_past issuer.marks m Undrawn (omega arith) in
+        let within : k ≤ m = ⊎_elim (λ l. let e : was_drawn Undrawn ≡ true = sym (ap was_drawn past) ∙ kept.below m l in cc) (λ l. l) (cases_lt m k) in
+        let next : n ≡ k = low ∙ prefix_len_is was_drawn issuer.marks k Undrawn within kept.below (λ h. kept.above k (omega arith)) in
         let more = length_push given n in
-        let ne : at n ≢ Sealed = λ e. let x = kept.above n (omega arith) in let y : was_drawn (at n) ≡ true = ap was_drawn e in let z : ◌≡◌ {A = ℕ} 0 1 = cc in omega arith in
+        let ne : at n ≢ Sealed = λ e. let x = kept.above n (omega arith) in let y : was_drawn (at n) ≡ true = ap was_drawn e in cc in
         record {
           whole = length-set issuer.marks n Drawn ∙ kept.whole;
           numbered = ap (λ xs. xs ++ n ∷ []) kept.numbered ∙ ap (λ j. range_with_len 0 k ++ j ∷ []) next ∙ counting_next k ∙ ap (range_with_len 0) (sym more);
@@ -160,8 +144,8 @@ module _ {V : Type 0} (a : Arithmetic V) (l : Layout) (w : ℕ) (key : V) where
     numbered = refl;
     below = λ n h. absurd (omega arith);
     above = λ n h. ⊎_elim (λ lt. ap was_drawn (get_or-replicate 1024 n Undrawn Undrawn lt)) (λ le. ap was_drawn (get_or_past (replicate 1024 Undrawn) n Undrawn (omega (arith, length-replicate 1024 Undrawn)))) (cases_lt n 1024);
-    marks = tt;
-    different = tt;
+    marks = All-nil _;
+    different = λ i j d h k. absurd (omega arith);
   }
 
   reached_kept : (given sealed : List ℕ) (issuer : Issuer V) → Reached a l w key given sealed issuer → Kept given sealed issuer

@@ -1,48 +1,24 @@
 -- A ticket first in its paper: a body written first, and then a tag behind it.
-use Rattle.std.proofs.Common.{◌≡◌, ℕ, ◌+◌, ◌-◌, ◌*◌, ◌/◌, ◌%◌, ◌<◌, ◌≤◌, Bool, true, false, cond, ltb, leb, List, ◌++◌, length, take, drop, Ok, Err, Result, sym, refl, ap, ◌∙◌, ap₂, arith, lt-ltb, le-leb}
+use Rattle.std.proofs.Common.{◌≡◌, ℕ, ◌+◌, ◌-◌, ◌*◌, ◌/◌, ◌%◌, ◌<◌, ◌≤◌, List, ◌++◌, length, take, drop, Ok, Result, sym, refl, ap, ◌∙◌, ap₂, arith, cond, Err, le-leb}
 use borrow.Rule.Slice.PartMut.{put_mid}
-use Rattle.std.proofs.lemmas.List.FromFn.{length-map-range_with_len}
-use Rattle.std.proofs.lemmas.List.{append_assoc, length-append, take_all, take_at, drop_at, drop-drop}
+use Rattle.std.proofs.lemmas.List.{append_assoc, length-append, take_at, drop_at, drop-drop}
 use Rattle.fault.specs.declared.Fault.{Fault}
-use Rattle.fault.specs.declared.Part.TheVariants.{Tag}
+use Rattle.fault.specs.declared.Part.TheVariants.{Call, Tag}
+use Rattle.fault.specs.Faults.{fault}
 use Rattle.field.specs.Fields.{Arithmetic}
 use Rattle.field.specs.Coordinates.{Layout}
-use Rattle.coding.specs.Bits.{bit_at, bits_from, regrouped}
 use Rattle.coding.specs.Encoding.{encoded_size_of, encoded, decoded}
-use Rattle.tag.specs.Bodies.{Opened, opened, parts, body_bytes, body_answer, body_paper, if_length, written_first}
+use Rattle.coding.proofs.Regrouping.{length_regrouped}
+use Rattle.tag.specs.Bodies.{Opened, parts, body_bytes, if_length, written_first}
 use Rattle.tag.specs.Tags.{tag_of}
-use Rattle.tag.specs.Tickets.{tag_answer}
-use Rattle.tag.proofs.Reading.{tag_right}
+use Rattle.tag.proofs.Reading.{ticket_compared, same_numbers_same}
 use Rattle.issuer.specs.Calls.{ticket_bytes, RightTicket}
-
--- a body that is in range, with room for it, is made and written
-module _ (number route : ℕ) (text paper : List ℕ) (n : number < 1024) (r : route < 64) (t : length text ≤ 438) (room : length text + 2 ≤ length paper) where
-  tests : {A : Type 0} (x a b c d : A) → cond (ltb number 1024) (cond (ltb route 64) (cond (leb (length text) 438) (cond (leb (length text + 2) (length paper)) x a) b) c) d ≡ x
-  tests x a b c d = rw (lt-ltb number 1024 n, lt-ltb route 64 r, le-leb (length text) 438 t, le-leb (length text + 2) (length paper) room)
-
-  pub body_made : (end : ℕ) → ◌≡◌ {A = Result ℕ Fault} (Ok end) (body_answer number route text (length paper)) → end ≡ length text + 2
-  body_made end e = let s : ◌≡◌ {A = Result ℕ Fault} (Ok end) (Ok (length text + 2)) = e ∙ tests _ _ _ _ _ in let same : end ≡ length text + 2 = cc in same
-
-  pub body_not_refused : (f : Fault) → ◌≡◌ {A = Result ℕ Fault} (Err f) (body_answer number route text (length paper)) → ⊥
-  body_not_refused f e = let s : ◌≡◌ {A = Result ℕ Fault} (Err f) (Ok (length text + 2)) = e ∙ tests _ _ _ _ _ in let z : ◌≡◌ {A = ℕ} 0 1 = cc in omega arith
-
-  pub body_written : body_paper number route text paper ≡ written_first (body_bytes number route text) paper
-  body_written = tests _ _ _ _ _
 
 -- what is given of a body that has a body's length
 pub tag_given : {A : Type 0} (body : List ℕ) (x y : A) → 2 ≤ length body → length body ≤ 440 → ◌≡◌ {A = Result A Fault} (if_length body x) (Ok y) → x ≡ y
 tag_given {A = A} body x y two short e =
     let s : ◌≡◌ {A = Result A Fault} (Ok x) (Ok y) = rw (le-leb 2 (length body) two, le-leb (length body) 440 short) at e in
     let same : x ≡ y = cc in same
-
--- an encoding into bytes of its size is not refused
-pub size_not_refused : (b : Bool) (e f : Fault) → b ≡ true → ◌≡◌ {A = Result (Unit {0}) Fault} (Err f) (cond b (Ok tt) (Err e)) → ⊥
-size_not_refused true e f h r = let z : ◌≡◌ {A = ℕ} 0 1 = cc in omega arith
-size_not_refused false e f h r = let z : ◌≡◌ {A = ℕ} 0 1 = cc in omega arith
-
-pub length_encoded : (w c : ℕ) (xs : List ℕ) → length (encoded w c xs) ≡ encoded_size_of w c
-unfolding regrouped
-length_encoded w c xs = length-map-range_with_len (λ j. bits_from (bit_at w xs) (8 * j) 8) 0 (encoded_size_of w c)
 
 pub tag_behind_body : (body tag paper : List ℕ) (end size : ℕ) → length body ≡ end → length tag ≡ size
     → put_mid end (end + size - end) (written_first body paper) tag ≡ written_first (body ++ tag) paper
@@ -76,13 +52,13 @@ module _ {V : Type 0} (a : Arithmetic V) (l : Layout) (w : ℕ) (key pad : List 
   told = record { number = number; route = route; text = text }
 
   long : length ticket ≡ length text + 2 + T
-  long = length-append body behind ∙ ap (λ k. length body + k) (length_encoded w l.count (l.by_power tag)) ∙ omega arith
+  long = length-append body behind ∙ ap (λ k. length body + k) (length_regrouped w 8 T (l.by_power tag)) ∙ omega arith
 
-  front : take ((length ticket - T) - 0) ticket ≡ body
-  front = take_at body behind ((length ticket - T) - 0) (omega (arith, long))
+  front : take (length ticket - T) ticket ≡ body
+  front = take_at body behind (length ticket - T) (omega (arith, long))
 
-  rest : take (length ticket - (length ticket - T)) (drop (length ticket - T) ticket) ≡ behind
-  rest = ap (take (length ticket - (length ticket - T))) (drop_at body behind (length ticket - T) (omega (arith, long))) ∙ take_all _ behind (omega (arith, long, length_encoded w l.count (l.by_power tag)))
+  rest : drop (length ticket - T) ticket ≡ behind
+  rest = drop_at body behind (length ticket - T) (omega (arith, long))
 
   parts_told : parts body ≡ told
   parts_told =
@@ -97,9 +73,6 @@ module _ {V : Type 0} (a : Arithmetic V) (l : Layout) (w : ℕ) (key pad : List 
   pub ticket_right : decoded l w Tag (encoded w l.count (l.by_power (tag_of a l w key pad (body_bytes number route text)))) ≡ Ok (l.by_power (tag_of a l w key pad (body_bytes number route text)))
       → l.from_power (l.by_power (tag_of a l w key pad (body_bytes number route text))) ≡ tag_of a l w key pad (body_bytes number route text) → RightTicket a l w key pad number route text
   ticket_right decodes back pads read =
-      tag_right a l w key pads ticket T refl (omega (arith, long)) (omega (arith, long)) told
-      (ap opened front ∙ if_right (parts body) ∙ ap Ok parts_told)
-      pad read (l.by_power tag) tag
-      (ap (decoded l w Tag) rest ∙ decodes)
-      (ap (tag_answer a l w key pad) front ∙ if_right tag)
-      (sym back)
+      ticket_compared a l w key pads ticket (length ticket - T) body behind told pad (l.by_power tag) tag refl (sym front) (sym rest)
+      (if_right (parts body) ∙ ap Ok parts_told) read decodes (if_right tag)
+      ∙ ap (λ b. cond b (Ok told) (Err (fault 11 Call 0))) (same_numbers_same _ _ (sym back))

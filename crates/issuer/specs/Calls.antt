@@ -1,5 +1,5 @@
 -- What each call of an issuer answers and leaves.
-use Rattle.std.specs.Prelude.{◌≡◌, ℕ, ◌+◌, Bool, false, cond, List, ◌++◌, length, take, replicate, Some, Ok, Err, Option, Result, nat_le, nat_lt, slice_index_or, slice_set}
+use Rattle.std.specs.Prelude.{◌≡◌, ℕ, ◌+◌, ◌<◌, ◌≤◌, Bool, false, cond, List, ◌++◌, length, take, replicate, Some, Ok, Err, Option, Result, nat_le, nat_lt, slice_index_or, slice_set}
 use Rattle.fault.specs.declared.Fault.{Fault}
 use Rattle.fault.specs.declared.Part.TheVariants.{Call}
 use Rattle.fault.specs.Faults.{fault}
@@ -48,6 +48,13 @@ Made a (Err f) before after = after ≡ before
 abbrev pub mark_by : Result ℕ Fault → Mark
 mark_by (Ok size) = Sealed
 mark_by (Err f) = Void
+
+-- A ticket with T bytes of tag can be written: its number, route and text are in range, and a paper of that room holds it.
+pub record FitsPaper (T number route : ℕ) (text : List ℕ) (room : ℕ) : Type 0 where
+  pub number_in_range : number < 1024
+  pub route_in_range : route < 64
+  pub text_in_range : length text ≤ 438
+  pub room_enough : length text + 2 + T ≤ room
 
 module _ {V : Type 0} (a : Arithmetic V) (l : Layout) (w : ℕ) where
   -- The stub that is given: refusal 6 for the pads, then 13 where none of their N numbers is left to draw.

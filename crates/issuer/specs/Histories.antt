@@ -1,6 +1,6 @@
 -- What holds over all calls of an issuer, from a new one on.
-use Rattle.std.specs.Prelude.{◌≡◌, ℕ, ◌≢◌, List, [], ◌∷◌, ◌++◌, length, Ok, Err, Result}
-use Rattle.std.specs.List.{range_with_len, AllByRecursion}
+use Rattle.std.specs.Prelude.{◌≡◌, ℕ, ◌≢◌, List, [], ◌∷◌, ◌++◌, length, Ok, Err, Result, AllPairs}
+use Rattle.std.specs.List.{range_with_len}
 use Rattle.fault.specs.declared.Fault.{Fault}
 use Rattle.field.specs.Fields.{Arithmetic}
 use Rattle.field.specs.Coordinates.{Layout}
@@ -20,8 +20,7 @@ number_sealed number (Err f) = []
 
 -- the numbers are pairwise different
 abbrev pub Different : List ℕ → Type 0
-Different [] = Unit {0}
-Different (x ∷ xs) = AllByRecursion (λ y. x ≢ y) xs × Different xs
+Different xs = AllPairs (λ x y. x ≢ y) xs
 
 module _ {V : Type 0} (a : Arithmetic V) (l : Layout) (w : ℕ) where
   -- Calls that take a new issuer with a key to the issuer, refused or not, and of stubs of any number, those of other issuers too:

@@ -1,5 +1,5 @@
 -- The marks of the numbers, in the order of the numbers.
-use Rattle.std.specs.Prelude.{ℕ, Bool, true, false, List, count_by}
+use Rattle.std.specs.Prelude.{ℕ, Bool, true, false, not, List, Option, count_by, position}
 use Rattle.std.specs.List.{prefix_len}
 use Rattle.issuer.specs.declared.marks.Mark.{Mark}
 use Rattle.issuer.specs.declared.marks.Mark.TheVariants.{Undrawn, Drawn, Sealed, Void}
@@ -33,6 +33,10 @@ is_void Void = true
 -- the lowest number that is not drawn, or how many numbers there are
 abbrev pub lowest_undrawn : List Mark → ℕ
 lowest_undrawn marks = prefix_len was_drawn marks
+
+-- that number, if there is one
+abbrev pub first_undrawn : List Mark → Option ℕ
+first_undrawn marks = position (λ m. not (was_drawn m)) marks
 
 -- how many numbers have such a mark
 abbrev pub how_many : (Mark → Bool) → List Mark → ℕ

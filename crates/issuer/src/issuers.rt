@@ -10,7 +10,7 @@ use super::stubs::Stub;
 use super::writing::{pad_for, write_ticket};
 use coding::CodedField;
 use fault::{Fault, Refusal};
-use tag::{count_pads, read_key};
+use tag::{Body, count_pads, read_key};
 
 // An issuer over any coded field: its key, and the mark of each number.
 #[derive(Drop)]
@@ -20,10 +20,12 @@ pub struct Issuer<F> {
 }
 
 impl<F: CodedField> Issuer<F> {
-    // Makes an issuer with the encoded key, nothing drawn, in a place that is lent. Where the key is refused the place is as before.
+    // Makes an issuer with the encoded key, nothing drawn, in a place that is lent: a rule of the project, as a place stays as it
+    // is where the key is refused.
     pub fn make(place: &mut Option<Issuer<F>>, key: &[u8]) -> Result<(), Fault>
-        ensures answer { result ≡ then (key_answer F.Field.arithmetic F.Coordinates.layout F.CodedField.bits key.now) (λ _. Ok tt) }
-        ensures place { Made F.Field.arithmetic (key_answer F.Field.arithmetic F.Coordinates.layout F.CodedField.bits key.now) place.old place.new }
+        ensures answer { result ≡ then (key_answer F.arithmetic F.layout F.bits key.now) (λ _. Ok tt) }
+        ensures place { Made F.arithmetic
+            (key_answer F.arithmetic F.layout F.bits key.now) place.old place.new }
     {
         let key: F = read_key(key)?;
         *place = Some(Issuer {
@@ -34,16 +36,16 @@ impl<F: CodedField> Issuer<F> {
     }
 
     // The lowest number that is not drawn, as a stub. Refused with 6 for the pads, and with 13 where all their numbers are drawn.
+    #[tactic(auto, using(crate::proofs::Walking::lowest_first))]
     pub fn draw(&mut self, pads: &[u8]) -> Result<Stub, Fault>
-        ensures answer { result ≡ draw_answer F.Field.arithmetic F.Coordinates.layout F.CodedField.bits self.old pads.now }
-        ensures after { self.new ≡ after_draw F.Field.arithmetic F.Coordinates.layout F.CodedField.bits self.old pads.now }
-        ensures stubs_are_numbered_in_order { NumberedInOrder F.Field.arithmetic F.Coordinates.layout F.CodedField.bits self.old result }
+        ensures answer { result ≡ draw_answer F.arithmetic F.layout F.bits self.old pads.now }
+        ensures after { self.new ≡ after_draw F.arithmetic F.layout F.bits self.old pads.now }
+        ensures stubs_are_numbered_in_order { NumberedInOrder F.arithmetic F.layout F.bits self.old result }
     {
         let count = count_pads::<F>(pads)?;
-        let number = find_undrawn(&self.marks);
-        if number >= count {
-            return Err(Fault::of_call(Refusal::AllDrawn));
-        }
+        let number = find_undrawn(&self.marks)
+            .filter(|number| *number < count)
+            .ok_or(Fault::of_call(Refusal::AllDrawn))?;
         self.marks[number] = Mark::Drawn;
         Ok(Stub::drawn(number as u16))
     }
@@ -59,25 +61,31 @@ impl<F: CodedField> Issuer<F> {
         pads: &[u8],
         paper: &mut [u8],
     ) -> Result<usize, Fault>
-        ensures answer { result ≡ seal_answer F.Field.arithmetic F.Coordinates.layout F.CodedField.bits self.old stub.number route text.now pads.now paper.old }
-        ensures after { self.new ≡ after_seal F.Field.arithmetic F.Coordinates.layout F.CodedField.bits self.old stub.number route text.now pads.now paper.old }
-        ensures paper { paper.new ≡ sealed_paper F.Field.arithmetic F.Coordinates.layout F.CodedField.bits self.old stub.number route text.now pads.now paper.old }
-        ensures sealed_ticket_is_right { SealedRight F.Field.arithmetic F.Coordinates.layout F.CodedField.bits self.old stub.number route text.now pads.now paper.new result }
-        ensures no_number_is_sealed_twice { SealedOnce F.Field.arithmetic F.Coordinates.layout F.CodedField.bits self.old stub.number result }
+        ensures answer { result ≡ seal_answer F.arithmetic F.layout F.bits
+            self.old stub.number route text.now pads.now paper.old }
+        ensures after { self.new ≡ after_seal F.arithmetic F.layout F.bits
+            self.old stub.number route text.now pads.now paper.old }
+        ensures paper { paper.new ≡ sealed_paper F.arithmetic F.layout F.bits
+            self.old stub.number route text.now pads.now paper.old }
+        ensures sealed_ticket_is_right { SealedRight F.arithmetic F.layout F.bits
+            self.old stub.number route text.now pads.now paper.new result }
+        ensures no_number_is_sealed_twice { SealedOnce F.arithmetic F.layout F.bits
+            self.old stub.number result }
     {
         let number = stub.number();
         stub.spend();
-        self.in_hand(number as usize)?;
-        match pad_for(number, route, text, pads, paper.len()) {
-            Ok(pad) => {
-                self.marks[number as usize] = Mark::Sealed;
-                write_ticket(self.key, pad, number, route, text, paper)
-            }
-            Err(fault) => {
-                self.marks[number as usize] = Mark::Void;
-                Err(fault)
-            }
-        }
+        let place = number as usize;
+        self.in_hand(place)?;
+        let body = Body {
+            number,
+            route,
+            text,
+        };
+        // A refusal from here on leaves the number void.
+        self.marks[place] = Mark::Void;
+        let pad = pad_for(body, pads, paper.len())?;
+        self.marks[place] = Mark::Sealed;
+        write_ticket(self.key, pad, body, paper)
     }
 
     // Gives the number of a stub up. One that is not in hand here is refused with 14, and nothing is altered.
@@ -96,15 +104,14 @@ impl<F: CodedField> Issuer<F> {
     fn in_hand(&self, number: usize) -> Result<(), Fault>
         ensures { result ≡ void_answer self.now number }
     {
-        if number < 1024 {
-            if let Mark::Drawn = self.marks[number] {
-                return Ok(());
-            }
+        match self.marks.get(number) {
+            Some(Mark::Drawn) => Ok(()),
+            _ => Err(Fault::of_call(Refusal::UnknownStub)),
         }
-        Err(Fault::of_call(Refusal::UnknownStub))
     }
 
-    // How many numbers were drawn, every stub that was given, how many are sealed and how many are void.
+    // How many numbers were drawn, every stub that was given, how many are sealed and how many are void; a rule of the project
+    // asks for the triple.
     pub fn tally(&self) -> (u16, u16, u16)
         ensures drawn { result.0 ≡ how_many was_drawn self.now.marks }
         ensures sealed { result.1 ≡ how_many is_sealed self.now.marks }

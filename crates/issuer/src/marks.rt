@@ -1,9 +1,9 @@
 //! The marks of the 1024 numbers.
 ghost use Rattle.std.specs.Prelude.{◌≡◌};
-ghost use Rattle.issuer.specs.Marks.{lowest_undrawn, how_many, was_drawn, is_sealed, is_void};
+ghost use Rattle.issuer.specs.Marks.{first_undrawn, how_many, was_drawn, is_sealed, is_void};
 
 // What became of a number. It is drawn while its stub is in hand.
-#[derive(Clone, Copy)]
+#[derive(Clone, Copy, Debug, PartialEq, Eq)]
 pub enum Mark {
     Undrawn,
     Drawn,
@@ -11,16 +11,11 @@ pub enum Mark {
     Void,
 }
 
-// The lowest number that is not drawn, or 1024 where there is none.
-pub(super) fn find_undrawn(marks: &[Mark; 1024]) -> usize
-    ensures { result ≡ lowest_undrawn marks.now }
+// The lowest number that is not drawn.
+pub(super) fn find_undrawn(marks: &[Mark; 1024]) -> Option<usize>
+    ensures { result ≡ first_undrawn marks.now }
 {
-    for (number, mark) in marks.iter().enumerate() {
-        if let Mark::Undrawn = *mark {
-            return number;
-        }
-    }
-    1024
+    marks.iter().position(|mark| *mark == Mark::Undrawn)
 }
 
 // How many numbers were drawn, whatever became of them, how many are sealed and how many are void.
@@ -29,22 +24,8 @@ pub(super) fn count_marks(marks: &[Mark; 1024]) -> (u16, u16, u16)
     ensures sealed { result.1 ≡ how_many is_sealed marks.now }
     ensures voided { result.2 ≡ how_many is_void marks.now }
 {
-    let mut drawn = 0;
-    let mut sealed = 0;
-    let mut voided = 0;
-    for mark in marks.iter() {
-        match *mark {
-            Mark::Undrawn => {}
-            Mark::Drawn => drawn += 1,
-            Mark::Sealed => {
-                drawn += 1;
-                sealed += 1;
-            }
-            Mark::Void => {
-                drawn += 1;
-                voided += 1;
-            }
-        }
-    }
-    (drawn, sealed, voided)
+    let drawn = marks.iter().filter(|mark| **mark != Mark::Undrawn).count();
+    let sealed = marks.iter().filter(|mark| **mark == Mark::Sealed).count();
+    let voided = marks.iter().filter(|mark| **mark == Mark::Void).count();
+    (drawn as u16, sealed as u16, voided as u16)
 }

@@ -1,6 +1,8 @@
 //! Stubs: a drawn number in hand. A stub cannot be copied, and is let go only when it is spent.
 ghost use Rattle.std.specs.Prelude.{◌≡◌, true, false};
 
+// A rule of the project: `drop` demands that the stub was spent, so the mark stands beside the number. With no `Drop` at
+// all a stub could not fall either, but no contract would say why.
 pub struct Stub {
     number: u16,
     spent: bool,

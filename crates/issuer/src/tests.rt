@@ -1,6 +1,6 @@
 //! The refusals of an issuer at their edges, and the ticket of docs/FORMATS.md.
 use super::issuers::Issuer;
-use fault::Fault;
+use fault::{Fault, Part, Refusal};
 use prime::{P4093, ShortTower};
 use std::process::Abort;
 use std::test::Fail;
@@ -15,31 +15,16 @@ const PADS: [u8; 6] = [0x00, 0x00, 0x00, 0x00, 0x70, 0x0B];
 
 fn new_issuer(rt: &impl Abort) -> Result<Issuer<Small>, Fail> {
     let mut place = None;
-    assert!(rt; Issuer::make(&mut place, &KEY).is_ok());
+    assert_eq!(rt; Issuer::make(&mut place, &KEY), Ok(()));
     Ok(place.ok_or("no issuer was made")?)
 }
 
-fn refused_with(fault: Fault, refusal: u8, part: u8) -> bool {
-    fault.refusal.number() == refusal && fault.part.number() == part && fault.place == 0
+fn refused<T>(refusal: Refusal) -> Result<T, Fault> {
+    Err(Fault::of_call(refusal))
 }
 
-fn is_refused(answer: Result<usize, Fault>, refusal: u8, part: u8) -> bool {
-    match answer {
-        Ok(_) => false,
-        Err(fault) => refused_with(fault, refusal, part),
-    }
-}
-
-fn is_size(answer: Result<usize, Fault>, size: usize) -> bool {
-    match answer {
-        Ok(length) => length == size,
-        Err(_) => false,
-    }
-}
-
-fn has_tally(issuer: &Issuer<Small>, drawn: u16, sealed: u16, voided: u16) -> bool {
-    let tally = issuer.tally();
-    tally.0 == drawn && tally.1 == sealed && tally.2 == voided
+fn bad_key(refusal: Refusal) -> Result<(), Fault> {
+    Err(Fault::new(refusal, Part::Key, 0))
 }
 
 // Draws a stub and seals it.
@@ -65,32 +50,30 @@ fn waste(issuer: &mut Issuer<Small>, pads: &[u8]) -> Result<usize, Fault> {
 #[test]
 fn ticket_first_in_its_paper(rt: HostRuntime) -> Result<(), Fail> {
     let mut issuer = new_issuer(&rt)?;
-    assert!(rt; is_size(waste(&mut issuer, &PADS), 0));
+    assert_eq!(rt; waste(&mut issuer, &PADS), Ok(0));
     let mut paper = [0xAA; 10];
-    assert!(rt;
-        is_size(
-            sell(&mut issuer, 5, &[0x48, 0x69, 0x00], &PADS, &mut paper),
-            8,
-        )
+    assert_eq!(rt;
+        sell(&mut issuer, 5, &[0x48, 0x69, 0x00], &PADS, &mut paper),
+        Ok(8)
     );
     let expected: [u8; 10] = [0x00, 0x45, 0x48, 0x69, 0x00, 0xBB, 0x46, 0xFE, 0xAA, 0xAA];
-    assert!(rt; paper == expected);
-    assert!(rt; has_tally(&issuer, 2, 1, 1));
-    assert!(rt; is_refused(waste(&mut issuer, &PADS), 13, 0));
-    assert!(rt; has_tally(&issuer, 2, 1, 1));
+    assert_eq!(rt; paper, expected);
+    assert_eq!(rt; issuer.tally(), (2, 1, 1));
+    assert_eq!(rt; waste(&mut issuer, &PADS), refused(Refusal::AllDrawn));
+    assert_eq!(rt; issuer.tally(), (2, 1, 1));
     Ok(())
 }
 
 #[test]
 fn pads_of_a_wrong_size(rt: HostRuntime) -> Result<(), Fail> {
     let mut issuer = new_issuer(&rt)?;
-    assert!(rt; is_refused(waste(&mut issuer, &[]), 6, 0));
-    assert!(rt; is_refused(waste(&mut issuer, &PADS[0..4]), 6, 0));
-    assert!(rt; is_refused(waste(&mut issuer, &[0; 3075]), 6, 0));
-    assert!(rt; has_tally(&issuer, 0, 0, 0));
-    assert!(rt; is_size(waste(&mut issuer, &PADS[0..3]), 0));
-    assert!(rt; is_refused(waste(&mut issuer, &PADS[0..3]), 13, 0));
-    assert!(rt; is_size(waste(&mut issuer, &PADS), 1));
+    assert_eq!(rt; waste(&mut issuer, &[]), refused(Refusal::BadPads));
+    assert_eq!(rt; waste(&mut issuer, &PADS[0..4]), refused(Refusal::BadPads));
+    assert_eq!(rt; waste(&mut issuer, &[0; 3075]), refused(Refusal::BadPads));
+    assert_eq!(rt; issuer.tally(), (0, 0, 0));
+    assert_eq!(rt; waste(&mut issuer, &PADS[0..3]), Ok(0));
+    assert_eq!(rt; waste(&mut issuer, &PADS[0..3]), refused(Refusal::AllDrawn));
+    assert_eq!(rt; waste(&mut issuer, &PADS), Ok(1));
     Ok(())
 }
 
@@ -99,14 +82,26 @@ fn room_route_and_text_at_their_edges(rt: HostRuntime) -> Result<(), Fail> {
     let pads = [0; 12];
     let mut issuer = new_issuer(&rt)?;
     let mut short = [0xAA; 442];
-    assert!(rt; is_refused(sell(&mut issuer, 64, &[0; 439], &pads, &mut short), 17, 0));
-    assert!(rt; is_refused(sell(&mut issuer, 63, &[0; 439], &pads, &mut short), 5, 0));
-    assert!(rt; is_refused(sell(&mut issuer, 63, &[0; 438], &pads, &mut short), 12, 0));
-    assert!(rt; short == [0xAA; 442]);
-    assert!(rt; has_tally(&issuer, 3, 0, 3));
+    assert_eq!(rt;
+        sell(&mut issuer, 64, &[0; 439], &pads, &mut short),
+        refused(Refusal::RouteOutOfRange)
+    );
+    assert_eq!(rt;
+        sell(&mut issuer, 63, &[0; 439], &pads, &mut short),
+        refused(Refusal::WrongLength)
+    );
+    assert_eq!(rt;
+        sell(&mut issuer, 63, &[0; 438], &pads, &mut short),
+        refused(Refusal::PaperTooShort)
+    );
+    assert_eq!(rt; short, [0xAA; 442]);
+    assert_eq!(rt; issuer.tally(), (3, 0, 3));
     let mut paper = [0xAA; 443];
-    assert!(rt; is_size(sell(&mut issuer, 63, &[0; 438], &pads, &mut paper), 443));
-    assert!(rt; has_tally(&issuer, 4, 1, 3));
+    assert_eq!(rt;
+        sell(&mut issuer, 63, &[0; 438], &pads, &mut paper),
+        Ok(443)
+    );
+    assert_eq!(rt; issuer.tally(), (4, 1, 3));
     Ok(())
 }
 
@@ -114,15 +109,18 @@ fn room_route_and_text_at_their_edges(rt: HostRuntime) -> Result<(), Fail> {
 fn number_then_route_then_pad(rt: HostRuntime) -> Result<(), Fail> {
     let mut issuer = new_issuer(&rt)?;
     let mut paper = [0; 9];
-    assert!(rt; is_size(waste(&mut issuer, &PADS), 0));
-    let stub = match issuer.draw(&PADS) {
-        Ok(stub) => stub,
-        Err(_) => return Err(Fail::new("number 1 was not drawn")),
-    };
-    assert!(rt; is_refused(issuer.seal(stub, 64, &[], &PADS[0..3], &mut paper), 8, 0));
+    assert_eq!(rt; waste(&mut issuer, &PADS), Ok(0));
+    let stub = issuer.draw(&PADS)?;
+    assert_eq!(rt;
+        issuer.seal(stub, 64, &[], &PADS[0..3], &mut paper),
+        refused(Refusal::NumberOutOfRange)
+    );
     let bad = [0, 0, 0, 0, 0, 0, 0xFF, 0xD0, 0x00];
-    assert!(rt; is_refused(sell(&mut issuer, 63, &[], &bad, &mut paper), 1, 2));
-    assert!(rt; has_tally(&issuer, 3, 0, 3));
+    assert_eq!(rt;
+        sell(&mut issuer, 63, &[], &bad, &mut paper),
+        Err(Fault::new(Refusal::CoefficientOutOfRange, Part::Pad, 0))
+    );
+    assert_eq!(rt; issuer.tally(), (3, 0, 3));
     Ok(())
 }
 
@@ -131,52 +129,42 @@ fn stub_of_another_issuer(rt: HostRuntime) -> Result<(), Fail> {
     let mut one = new_issuer(&rt)?;
     let mut other = new_issuer(&rt)?;
     let mut paper = [0; 9];
-    let stub = match one.draw(&PADS) {
-        Ok(stub) => stub,
-        Err(_) => return Err(Fail::new("number 0 was not drawn")),
-    };
-    assert!(rt; is_refused(other.seal(stub, 64, &[], &[], &mut paper), 14, 0));
-    assert!(rt; has_tally(&other, 0, 0, 0));
-    assert!(rt; has_tally(&one, 1, 0, 0));
-    assert!(rt; is_size(waste(&mut other, &PADS), 0));
-    let second = match one.draw(&PADS) {
-        Ok(stub) => stub,
-        Err(_) => return Err(Fail::new("number 1 was not drawn")),
-    };
-    match other.void(second) {
-        Ok(()) => return Err(Fail::new("a stub of another issuer was voided")),
-        Err(fault) => assert!(rt; refused_with(fault, 14, 0)),
-    }
-    assert!(rt; has_tally(&one, 2, 0, 0));
-    assert!(rt; has_tally(&other, 1, 0, 1));
+    let stub = one.draw(&PADS)?;
+    assert_eq!(rt;
+        other.seal(stub, 64, &[], &[], &mut paper),
+        refused(Refusal::UnknownStub)
+    );
+    assert_eq!(rt; other.tally(), (0, 0, 0));
+    assert_eq!(rt; one.tally(), (1, 0, 0));
+    assert_eq!(rt; waste(&mut other, &PADS), Ok(0));
+    let second = one.draw(&PADS)?;
+    assert_eq!(rt; other.void(second), refused(Refusal::UnknownStub));
+    assert_eq!(rt; one.tally(), (2, 0, 0));
+    assert_eq!(rt; other.tally(), (1, 0, 1));
     Ok(())
 }
 
 #[test]
 fn refused_key_leaves_the_place(rt: HostRuntime) -> Result<(), Fail> {
     let mut issuer = new_issuer(&rt)?;
-    assert!(rt; is_size(waste(&mut issuer, &PADS), 0));
+    assert_eq!(rt; waste(&mut issuer, &PADS), Ok(0));
     let mut place = Some(issuer);
-    assert!(rt; is_fault(Issuer::make(&mut place, &[0x00, 0x30]), 3));
-    assert!(rt; is_fault(Issuer::make(&mut place, &[0xFF, 0xD0, 0x00]), 1));
-    assert!(rt; is_fault(Issuer::make(&mut place, &[0x00, 0x00, 0x00]), 7));
-    match &place {
-        Some(kept) => assert!(rt; has_tally(kept, 1, 0, 1)),
-        None => return Err(Fail::new("the issuer is gone")),
-    }
-    assert!(rt; Issuer::make(&mut place, &KEY).is_ok());
-    match &place {
-        Some(made) => {
-            assert!(rt; has_tally(made, 0, 0, 0));
-            Ok(())
-        },
-        None => Err(Fail::new("no issuer was made")),
-    }
-}
-
-fn is_fault(answer: Result<(), Fault>, refusal: u8) -> bool {
-    match answer {
-        Ok(()) => false,
-        Err(fault) => refused_with(fault, refusal, 1),
-    }
+    assert_eq!(rt;
+        Issuer::make(&mut place, &[0x00, 0x30]),
+        bad_key(Refusal::WrongSize)
+    );
+    assert_eq!(rt;
+        Issuer::make(&mut place, &[0xFF, 0xD0, 0x00]),
+        bad_key(Refusal::CoefficientOutOfRange)
+    );
+    assert_eq!(rt;
+        Issuer::make(&mut place, &[0x00, 0x00, 0x00]),
+        bad_key(Refusal::ZeroKey)
+    );
+    let kept = place.as_ref().ok_or("the issuer is gone")?;
+    assert_eq!(rt; kept.tally(), (1, 0, 1));
+    assert_eq!(rt; Issuer::make(&mut place, &KEY), Ok(()));
+    let made = place.as_ref().ok_or("no issuer was made")?;
+    assert_eq!(rt; made.tally(), (0, 0, 0));
+    Ok(())
 }

@@ -1,4 +1,3 @@
-pub mod Opening
 pub mod Reading
 pub mod Turns
 pub mod Wholes

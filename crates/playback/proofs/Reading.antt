@@ -1,19 +1,14 @@
 -- The records of a tape, one after the other.
-use Rattle.std.proofs.Common.{◌≡◌, ℕ, zero, suc, ◌+◌, ◌<◌, Bool, true, false, cond, leb, List, [], ◌∷◌, length, Some, None, Ok, Err, Option, Result, refl, ap, arith}
-use mathlib.Core.Path.{Path}
-use Rattle.std.proofs.lemmas.Bool.{leb-false}
+use Rattle.std.proofs.Common.{◌≡◌, ℕ, zero, suc, ◌+◌, ◌<◌, List, [], ◌∷◌, length, Some, None, Ok, Err, refl, ap, arith}
+use Rattle.std.proofs.lemmas.Grind.{common_steps}
 use Rattle.fault.specs.declared.Fault.{Fault}
-use Rattle.tape.specs.Records.{Request, check, cancel, report, next_record, record_bytes}
+use Rattle.tape.specs.Records.{Request, next_record, record_bytes}
 use Rattle.playback.specs.Lines.{read_on, records_from}
 
 module _ (tape : List ℕ) (at : ℕ) where
   -- a record begins before the tape's end, and takes some of it
   pub begins : (r : Request) → next_record tape at ≡ Ok (Some r) → at < length tape
-  begins r q = go (leb (length tape) at) refl _ q
-    where
-      go : (b : Bool) → leb (length tape) at ≡ b → (x : Result (Option Request) Fault) → Path (Result (Option Request) Fault) (cond b (Ok None) x) (Ok (Some r)) → at < length tape
-      go true e x q = absurd (let z : ◌≡◌ {A = ℕ} 0 1 = cc in omega arith)
-      go false e x q = leb-false _ _ e
+  begins r q = grind (arith, common_steps)
 
   pub from_record : (most : ℕ) (r : Request) → next_record tape at ≡ Ok (Some r) → records_from (suc most) tape at ≡ r ∷ records_from most tape (at + length (record_bytes r))
   unfolding records_from
@@ -28,8 +23,3 @@ module _ (tape : List ℕ) (at : ℕ) where
   unfolding records_from
   from_fault zero f q = refl
   from_fault (suc most) f q = ap (read_on (records_from most tape) at) q
-
-pub takes_some : (r : Request) → 0 < length (record_bytes r)
-takes_some (check ticket) = omega arith
-takes_some (cancel number) = omega arith
-takes_some (report route) = omega arith

@@ -1,6 +1,8 @@
 -- The lines of reports, over the calls before each.
 use Rattle.std.proofs.Common.{◌≡◌, ℕ, zero, suc, ◌+◌, ◌<◌, List, [], ◌∷◌, ◌++◌, map, length, get_or, take, Ok, Err, Result, sym, refl, ap, ◌∙◌, subst, ap₂, append_assoc, append-nil, arith}
-use Rattle.std.proofs.lemmas.List.{length-map, get_or_append_left}
+use mathlib.Core.Path.{Path}
+use Rattle.std.specs.Result.{IfOk, OnOk}
+use Rattle.std.proofs.lemmas.List.{length-map, get_or_append_left, get_or-map, take-map}
 use Rattle.fault.specs.declared.Fault.{Fault}
 use Rattle.field.specs.Fields.{Arithmetic}
 use Rattle.field.specs.Coordinates.{Layout}
@@ -13,18 +15,8 @@ use Rattle.validator.specs.Shifts.{Reached, begun, called}
 use Rattle.validator.proofs.Rides.{reached_rides}
 use Rattle.playback.specs.declared.lines.Line.{Line}
 use Rattle.playback.specs.declared.lines.Line.TheVariants.{Rides, End}
-use Rattle.playback.specs.Inputs.{Parts}
-use Rattle.playback.specs.Lines.{records, reading_end, call, report_line, closing, line_of, call_lines, tape_lines, of_meanings, RecordsAreWhole, Played}
-
-map_getD : {A B : Type 0} (f : A → B) (xs : List A) (x : A) (y : B) (i : ℕ) → i < length xs → get_or (map f xs) i y ≡ f (get_or xs i x)
-map_getD f [] x y i m = absurd (omega arith)
-map_getD f (z ∷ zs) x y zero m = refl
-map_getD f (z ∷ zs) x y (suc i) m = map_getD f zs x y i (omega arith)
-
-map_take : {A B : Type 0} (f : A → B) (i : ℕ) (xs : List A) → take i (map f xs) ≡ map f (take i xs)
-map_take f zero xs = refl
-map_take f (suc i) [] = refl
-map_take f (suc i) (x ∷ xs) = ap (λ ys. f x ∷ ys) (map_take f i xs)
+use Rattle.playback.specs.Inputs.{Parts, Begun}
+use Rattle.playback.specs.Lines.{records, reading_end, call, report_line, closing, line_of, call_lines, tape_lines, of_meanings, started_lines, shift_lines, RecordsAreWhole, Played, PlaysTheWholeTape}
 
 -- a record of those that fit does
 fits_at : (rs : List Request) (i : ℕ) → i < length rs → EachFits rs → Fits (get_or rs i (cancel 0))
@@ -88,7 +80,7 @@ module _ {V : Type 0} (a : Arithmetic V) (l : Layout) (w : ℕ) where
       ap₂ ◌∷◌ (meant_line (suc n) v c) (meant_lines (suc n) (after a l w v c) cs ∙ ap (λ u. call_lines (of_meanings a) l w (suc n) u cs) (meant_after v c))
 
   -- the lines of a tape, by the meaning of the key
-  pub lines_by_meaning : (v : Validator V) (pads tape : List ℕ) → v ≡ blank v.key → tape_lines a l w v pads tape ≡ tape_lines (of_meanings a) l w (blank (a.meaning v.key)) pads tape
+  lines_by_meaning : (v : Validator V) (pads tape : List ℕ) → v ≡ blank v.key → tape_lines a l w v pads tape ≡ tape_lines (of_meanings a) l w (blank (a.meaning v.key)) pads tape
   lines_by_meaning v pads tape e =
       ap (λ xs. xs ++ closing (length (records tape)) (next_record tape (reading_end tape)))
       (meant_lines 0 v (map (call pads) (records tape)) ∙ ap (λ u. call_lines (of_meanings a) l w 0 (meant u) (map (call pads) (records tape))) e)
@@ -106,13 +98,29 @@ module _ {V : Type 0} (a : Arithmetic V) (l : Layout) (w : ℕ) where
         let small : r < 64 = subst Fits q (fits_at (records p.tape) i m whole.held.0) in
         let many : length asked ≡ length (records p.tape) = length-map (records p.tape) (call p.pads) in
         let as_many = lines_as_many (of_meanings a) l w 0 (blank p.key) asked in
-        let here : get_or asked i (calls.cancel 0) ≡ calls.report r = map_getD (call p.pads) (records p.tape) (cancel 0) (calls.cancel 0) i m ∙ ap (call p.pads) q in
+        let here : get_or asked i (calls.cancel 0) ≡ calls.report r = get_or-map (call p.pads) (records p.tape) i (cancel 0) (calls.cancel 0) m ∙ ap (call p.pads) q in
         let (c, line, rides) = report_lines (of_meanings a) l w p.key [] (blank p.key) begun 0 asked i r (omega arith) here small in
         let number : suc (0 + i) ≡ suc i = omega arith in (
           c,
           get_or_append_left lines _ (End 0) i (omega arith) ∙ line ∙ ap (λ (x : ℕ). Rides x c) number,
-          subst (λ (xs : List Call). shifts.Rides (of_meanings a) l w p.key xs r c) (map_take (call p.pads) i (records p.tape)) rides,
+          subst (λ (xs : List Call). shifts.Rides (of_meanings a) l w p.key xs r c) (take-map (call p.pads) i (records p.tape)) rides,
         )
 
-    pub played : Played a l w p (tape_lines (of_meanings a) l w (blank p.key) p.pads p.tape)
+    played : Played a l w p (tape_lines (of_meanings a) l w (blank p.key) p.pads p.tape)
     played = record { whole = whole; reports = report_line_of }
+
+  -- the lines of a shift that has begun, where there was memory for them
+  module _ (input : List ℕ) (v : Validator V) (pads tape : List ℕ) (begun : Begun a l w input v pads tape) where
+    lines_of_shift : (ls : List Line) → ls ≡ tape_lines a l w v pads tape → ls ≡ shift_lines a l w input
+    lines_of_shift ls e = e ∙ lines_by_meaning v pads tape begun.0 ∙ sym (ap (started_lines a l w) begun.1)
+
+    whole_of_shift : (ls : List Line) → ls ≡ tape_lines a l w v pads tape → RecordsAreWhole tape → PlaysTheWholeTape a l w input ls
+    whole_of_shift ls e whole p q =
+        let parts : Parts = record { key = a.meaning v.key; pads = pads; tape = tape } in
+        let same : parts ≡ p = (let r : Path (Result Parts Fault) (Ok parts) (Ok p) = sym begun.1 ∙ q in cc) in
+        subst (λ x. Played a l w x ls) same (subst (Played a l w parts) (sym (e ∙ lines_by_meaning v pads tape begun.0)) (played parts whole))
+
+    pub shift_played : {X E : Type 0} (items : X → List Line) (r : Result X E) → IfOk r (λ x. items x ≡ tape_lines a l w v pads tape) → OnOk r (RecordsAreWhole tape)
+        → IfOk r (λ x. items x ≡ shift_lines a l w input) × IfOk r (λ x. PlaysTheWholeTape a l w input (items x))
+    shift_played items (Ok x) e whole = (lines_of_shift (items x) e, whole_of_shift (items x) e whole)
+    shift_played items (Err y) e whole = (tt, tt)

@@ -4,12 +4,13 @@ use Rattle.fault.specs.declared.Fault.{Fault}
 use Rattle.field.specs.Fields.{Arithmetic}
 use Rattle.field.specs.Coordinates.{Layout}
 use Rattle.tape.specs.Records.{Request, next_record, record_bytes, all_bytes, place_after}
+use Rattle.tape.proofs.Readings.{two_at_least}
 use Rattle.validator.specs.declared.Validator.{Validator}
 use Rattle.validator.specs.Calls.{after}
 use Rattle.playback.specs.declared.lines.Line.{Line}
 use Rattle.playback.specs.declared.lines.Line.TheVariants.{Refused, End}
 use Rattle.playback.specs.Lines.{records_from, call, closing, line_of, call_lines, tape_lines}
-use Rattle.playback.proofs.Reading.{begins, from_record, from_end, from_fault, takes_some}
+use Rattle.playback.proofs.Reading.{begins, from_record, from_end, from_fault}
 
 module _ {V : Type 0} (a : Arithmetic V) (l : Layout) (w : ℕ) (pads tape : List ℕ) where
   -- the lines of the records from a place on, after n others
@@ -41,11 +42,16 @@ module _ {V : Type 0} (a : Arithmetic V) (l : Layout) (w : ℕ) (pads tape : Lis
         let place : at + 0 ≡ at = omega arith in
         ap (λ xs. ls ++ xs) (sym (ap (λ rs. rest_of (length ls) v at rs) e ∙ ap₂ (λ m k. closing m (next_record tape k)) n place)) ∙ s.whole
 
-    pub ended : next_record tape at ≡ Ok None → ls ++ End (length ls) ∷ [] ≡ tape_lines a l w begun pads tape
-    ended q = ap (λ x. ls ++ closing (length ls) x) (sym q) ∙ last_lines (from_end tape at s.most q)
+    pub ended : next_record tape at ≡ Ok None → (ls' : List Line) → ls' ≡ ls → ls' ++ End (length ls') ∷ [] ≡ tape_lines a l w begun pads tape
+    ended q ls' e = ap (λ (xs : List Line). xs ++ End (length xs) ∷ []) e ∙ ap (λ x. ls ++ closing (length ls) x) (sym q) ∙ last_lines (from_end tape at s.most q)
 
-    pub faulted : (f : Fault) → next_record tape at ≡ Err f → ls ++ Refused (suc (length ls)) f ∷ End (suc (length ls)) ∷ [] ≡ tape_lines a l w begun pads tape
-    faulted f q = ap (λ x. ls ++ closing (length ls) x) (sym q) ∙ last_lines (from_fault tape at s.most f q)
+    pub faulted : (f : Fault) → next_record tape at ≡ Err f → (ls' : List Line) → ls' ≡ ls ++ Refused (length ls + 1) f ∷ [] → ls' ++ End (length ls') ∷ [] ≡ tape_lines a l w begun pads tape
+    faulted f q ls' e =
+        let more : length ls' ≡ suc (length ls) = ap length e ∙ length-append ls _ ∙ omega arith in
+        let here : length ls + 1 ≡ suc (length ls) = omega arith in
+        ap₂ (λ (xs : List Line) (n : ℕ). xs ++ End n ∷ []) (e ∙ ap (λ n. ls ++ Refused n f ∷ []) here) more
+        ∙ append_assoc ls (Refused (suc (length ls)) f ∷ []) (End (suc (length ls)) ∷ [])
+        ∙ ap (λ x. ls ++ closing (length ls) x) (sym q) ∙ last_lines (from_fault tape at s.most f q)
 
     module _ (r : Request) (q : next_record tape at ≡ Ok (Some r)) where
       abbrev next_place : ℕ
@@ -68,7 +74,7 @@ module _ {V : Type 0} (a : Arithmetic V) (l : Layout) (w : ℕ) (pads tape : Lis
           let more : length (ls ++ next_line ∷ []) ≡ suc (length ls) = length-append ls (next_line ∷ []) ∙ omega arith in
           record {
             most = most;
-            enough = omega (arith, takes_some r);
+            enough = omega (arith, two_at_least r);
             whole =
                 append_assoc ls (next_line ∷ []) _
                 ∙ ap (λ m. ls ++ next_line ∷ rest_of m (after a l w v (call pads r)) next_place rs) more
@@ -95,4 +101,4 @@ module _ {V : Type 0} (a : Arithmetic V) (l : Layout) (w : ℕ) (pads tape : Lis
 pub less_left : (tape : List ℕ) (at : ℕ) (r : Request) → Ok (Some r) ≡ next_record tape at → (at' : ℕ) → at' ≡ place_after at (next_record tape at) → length tape - at' < length tape - at
 less_left tape at r q at' p =
     let place : at' ≡ at + length (record_bytes r) = p ∙ ap (place_after at) (sym q) in
-    omega (arith, begins tape at r (sym q), takes_some r)
+    omega (arith, begins tape at r (sym q), two_at_least r)

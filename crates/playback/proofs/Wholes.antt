@@ -1,16 +1,12 @@
 -- The records of a tape are all that it holds.
-use Rattle.std.proofs.Common.{◌≡◌, ℕ, zero, suc, ◌+◌, ◌<◌, ◌≤◌, List, [], ◌∷◌, ◌++◌, length, get_or, Some, None, Ok, Err, Option, Result, sym, refl, ap, ◌∙◌, subst, append_assoc, append-nil, arith, length-append}
+use Rattle.std.proofs.Common.{◌≡◌, ℕ, zero, suc, ◌+◌, ◌<◌, ◌≤◌, List, [], ◌∷◌, ◌++◌, length, Some, None, Ok, Err, Option, Result, sym, refl, ap, ◌∙◌, subst, append_assoc, append-nil, arith, length-append}
 use mathlib.Core.Path.{Path}
 use lib.Lanes.{Each1}
 use Rattle.fault.specs.declared.Fault.{Fault}
 use Rattle.tape.specs.Records.{Request, next_record, record_bytes, all_bytes, Holds}
-use Rattle.tape.proofs.Readings.{reading_is_whole}
+use Rattle.tape.proofs.Readings.{two_at_least, reading_is_whole}
 use Rattle.playback.specs.Lines.{records_from, records, reading_end, RecordsAreWhole}
-use Rattle.playback.proofs.Reading.{begins, from_record, from_end, from_fault, takes_some}
-
-pub bytes_fit : (xs : List ℕ) → ((i : ℕ) → get_or xs i 0 < 256) → Each1 (λ n. n < 256) xs
-bytes_fit [] h = tt
-bytes_fit (x ∷ xs) h = (h 0, bytes_fit xs (λ i. h (suc i)))
+use Rattle.playback.proofs.Reading.{begins, from_record, from_end, from_fault}
 
 module _ (tape : List ℕ) where
   -- what is answered at a place decides what is read on from it
@@ -53,15 +49,13 @@ module _ (tape : List ℕ) where
           let xs = records_from most tape next in
           let rest = from_record tape at most s e in
           let place : at + length (record_bytes s ++ all_bytes xs) ≡ next + length (all_bytes xs) = omega (arith, length-append (record_bytes s) (all_bytes xs)) in
-          later next (omega (arith, takes_some s)) (ap (next_record tape) (sym (ap (λ ys. at + length (all_bytes ys)) rest ∙ place)) ∙ q)
+          later next (omega (arith, two_at_least s)) (ap (next_record tape) (sym (ap (λ ys. at + length (all_bytes ys)) rest ∙ place)) ∙ q)
       go (Ok None) e later q =
           let same : Path (Result (Option Request) Fault) (Ok None) (Ok (Some r)) = sym e ∙ ap (next_record tape) (sym (ap (λ ys. at + length (all_bytes ys)) (from_end tape at (suc most) e) ∙ here)) ∙ q in
-          let z : ◌≡◌ {A = ℕ} 0 1 = cc in
-          omega arith
+          cc
       go (Err f) e later q =
           let same : Path (Result (Option Request) Fault) (Err f) (Ok (Some r)) = sym e ∙ ap (next_record tape) (sym (ap (λ ys. at + length (all_bytes ys)) (from_fault tape at (suc most) f e) ∙ here)) ∙ q in
-          let z : ◌≡◌ {A = ℕ} 0 1 = cc in
-          omega arith
+          cc
 
   pub records_are_whole : Each1 (λ n. n < 256) tape → RecordsAreWhole tape
   records_are_whole bytes =

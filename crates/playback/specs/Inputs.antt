@@ -1,5 +1,5 @@
 -- The input of a shift: an encoded key, a count of pads in two bytes, the pads, and then the tape.
-use Rattle.std.specs.Prelude.{◌≡◌, ℕ, ◌+◌, ◌*◌, cond, List, length, take, drop, Some, None, Ok, Err, Option, Result, nat_le, slice_index}
+use Rattle.std.specs.Prelude.{◌≡◌, ℕ, ◌+◌, ◌*◌, cond, List, length, take, drop, Ok, Err, Result, nat_le, slice_index}
 use Rattle.fault.specs.declared.Fault.{Fault}
 use Rattle.fault.specs.declared.Part.TheVariants as part
 use Rattle.fault.specs.Faults.{fault}
@@ -9,12 +9,18 @@ use Rattle.coding.specs.Encoding.{encoded_size_of}
 use Rattle.tag.specs.Tickets.{then, key_answer}
 use Rattle.validator.specs.declared.Validator.{Validator}
 use Rattle.validator.specs.Calls.{blank}
+use Rattle.playback.specs.declared.inputs.Input.{Input}
 
 -- a key, pads and a tape
 pub record Parts : Type 0 where
   pub key : List ℕ
   pub pads : List ℕ
   pub tape : List ℕ
+
+-- what taking an input apart answered, wherever the parts lie in it
+abbrev pub opened : Result Input Fault → Result Parts Fault
+opened (Ok i) = Ok (record { key = i.key.now; pads = i.pads.now; tape = i.tape.now })
+opened (Err f) = Err f
 
 -- the count of pads that an input names
 abbrev pub pad_count : ℕ → List ℕ → ℕ
@@ -42,7 +48,6 @@ start_answer a l w input =
     then (input_answer (encoded_size_of w l.count) input) (λ p.
     then (key_answer a l w p.key) (λ key. Ok (record { key = key; pads = p.pads; tape = p.tape })))
 
--- what is in a place once a shift has begun: a blank validator that has the input's key
-abbrev pub Begun : {V : Type 0} → Arithmetic V → Layout → ℕ → List ℕ → Option (Validator V) → List ℕ → List ℕ → Type 0
-Begun a l w input (Some v) pads tape = (v ≡ blank v.key) × (start_answer a l w input ≡ Ok (record { key = a.meaning v.key; pads = pads; tape = tape }))
-Begun a l w input None pads tape = ⊥
+-- a shift has begun: a blank validator has the input's key, and the pads and the tape are the input's
+abbrev pub Begun : {V : Type 0} → Arithmetic V → Layout → ℕ → List ℕ → Validator V → List ℕ → List ℕ → Type 0
+Begun a l w input v pads tape = (v ≡ blank v.key) × (start_answer a l w input ≡ Ok (record { key = a.meaning v.key; pads = pads; tape = tape }))

@@ -1,5 +1,5 @@
 -- The text of a line, and of a page of lines.
-use Rattle.std.specs.Prelude.{ℕ, List, [], ◌∷◌, ◌++◌, codes, decimal}
+use Rattle.std.specs.Prelude.{ℕ, List, [], ◌∷◌, ◌++◌, codes, decimal, flat_map}
 use Rattle.fault.specs.Faults.{fault_text}
 use Rattle.playback.specs.declared.lines.Line.{Line}
 use Rattle.playback.specs.declared.lines.Line.TheVariants.{Pass, Refused, Cancelled, Rides, End}
@@ -13,5 +13,4 @@ line_text (End n) = codes "end " ++ decimal n
 
 -- every line ends with a newline, byte 10
 abbrev pub page_text : List Line → List ℕ
-page_text [] = []
-page_text (x ∷ xs) = (line_text x ++ 10 ∷ []) ++ page_text xs
+page_text lines = flat_map (λ x. line_text x ++ 10 ∷ []) lines

@@ -1,7 +1,7 @@
 //! The input of a shift taken apart.
-ghost use Rattle.std.specs.Prelude.{◌≡◌, Ok, Err, MatchResult};
+ghost use Rattle.std.specs.Prelude.{◌≡◌};
 ghost use Rattle.coding.specs.Encoding.{encoded_size_of};
-ghost use Rattle.playback.specs.Inputs.{input_answer};
+ghost use Rattle.playback.specs.Inputs.{opened, input_answer};
 
 use coding::{CodedField, encoded_size};
 use fault::{Fault, Refusal};
@@ -19,23 +19,19 @@ pub struct Input<'a> {
 
 // Takes an input apart; its length is tested first (3), then the count of pads and whether they are there (6).
 pub fn open_input<F: CodedField>(input: &[u8]) -> Result<Input<'_>, Fault>
-    ensures { MatchResult result (λ i. input_answer (encoded_size_of F.CodedField.bits F.Coordinates.layout.count) input.now ≡ Ok (record { key = i.key.now; pads = i.pads.now; tape = i.tape.now })) (λ f. input_answer (encoded_size_of F.CodedField.bits F.Coordinates.layout.count) input.now ≡ Err f) }
+    ensures { opened result ≡ input_answer (encoded_size_of F.bits F.layout.count) input.now }
 {
     let size = encoded_size::<F>();
     if input.len() < size + 2 || input.len() > LONGEST_INPUT {
         return Err(Fault::of_call(Refusal::WrongSize));
     }
-    let count = input[size] as usize * 256 + input[size + 1] as usize;
-    if count < 1 || count > 1024 {
+    let (key, rest) = input.split_at(size);
+    let count = u16::from_be_bytes([rest[0], rest[1]]) as usize;
+    if !(1..=1024).contains(&count) {
         return Err(Fault::of_call(Refusal::BadPads));
     }
-    let tape = size + 2 + count * size;
-    if input.len() < tape {
-        return Err(Fault::of_call(Refusal::BadPads));
-    }
-    Ok(Input {
-        key: &input[0..size],
-        pads: &input[size + 2..tape],
-        tape: &input[tape..input.len()],
-    })
+    let (pads, tape) = rest[2..]
+        .split_at_checked(count * size)
+        .ok_or(Fault::of_call(Refusal::BadPads))?;
+    Ok(Input { key, pads, tape })
 }

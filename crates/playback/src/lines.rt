@@ -1,13 +1,14 @@
 //! The lines of a shift and their text.
-ghost use Rattle.std.specs.Prelude.{◌≡◌, [], ◌∷◌, ◌++◌, IfOk, Some, string_bytes};
+ghost use Rattle.std.specs.Prelude.{◌≡◌, IfOk, Some, string_bytes};
 ghost use Rattle.playback.specs.Texts.{line_text, page_text};
 
 use fault::Fault;
 use std::alloc::{AllocError, Global};
 use std::fmt;
 
-// What is said of a record, after its number; at the end, how many lines there were.
-#[derive(Clone, Copy)]
+// What is said of a record, after its number; at the end, how many lines there were. A struct of the number and what is said
+// would be no plainer: the last line has a count in the number's place.
+#[derive(Clone, Copy, Debug, PartialEq, Eq)]
 pub enum Line {
     Pass(usize, u8),
     Refused(usize, Fault),
@@ -30,20 +31,13 @@ impl fmt::Display for Line {
     }
 }
 
-fn with_newline(heap: Global, line: &Line) -> Result<String, AllocError>
-    ensures { IfOk result (λ s. string_bytes s ≡ line_text line.now ++ 10 ∷ []) }
-{
-    format!(in heap; "{line}\n")
-}
-
 // The text of the lines, a newline after each.
 pub fn page(heap: Global, lines: &[Line]) -> Result<String, AllocError>
     ensures { IfOk result (λ s. string_bytes s ≡ page_text lines.now) }
 {
     let mut all = String::new(heap);
     for line in lines {
-        let text = with_newline(heap, line)?;
-        all.push_str(&text)?;
+        writeln!(all, "{line}")?;
     }
     Ok(all)
 }

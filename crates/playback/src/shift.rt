@@ -21,23 +21,21 @@ fn answer<F: CodedField>(
     number: usize,
     item: Record<'_>,
 ) -> Line
-    ensures line { result ≡ line_of F.Field.arithmetic F.Coordinates.layout F.CodedField.bits number validator.old (call pads.now (request item.entry)) }
-    ensures state { validator.new ≡ after F.Field.arithmetic F.Coordinates.layout F.CodedField.bits validator.old (call pads.now (request item.entry)) }
+    ensures line { result ≡ line_of F.arithmetic F.layout F.bits
+        number validator.old (call pads.now (request item.entry)) }
+    ensures state { validator.new ≡ after F.arithmetic F.layout F.bits
+        validator.old (call pads.now (request item.entry)) }
 {
-    match item {
-        Record::Check(ticket) => match validator.check(ticket, pads) {
-            Ok(route) => Line::Pass(number, route),
-            Err(fault) => Line::Refused(number, fault),
-        },
-        Record::Cancel(ticket) => match validator.cancel(ticket) {
-            Ok(()) => Line::Cancelled(number),
-            Err(fault) => Line::Refused(number, fault),
-        },
-        Record::Report(route) => match validator.report(route) {
-            Ok(count) => Line::Rides(number, count),
-            Err(fault) => Line::Refused(number, fault),
-        },
-    }
+    let said = match item {
+        Record::Check(ticket) => validator
+            .check(ticket, pads)
+            .map(|route| Line::Pass(number, route)),
+        Record::Cancel(ticket) => validator.cancel(ticket).map(|()| Line::Cancelled(number)),
+        Record::Report(route) => validator
+            .report(route)
+            .map(|count| Line::Rides(number, count)),
+    };
+    said.unwrap_or_else(|fault| Line::Refused(number, fault))
 }
 
 // The lines of a tape.
@@ -47,67 +45,56 @@ fn play_tape<F: CodedField>(
     pads: &[u8],
     tape: &[u8],
 ) -> Result<Vec<Line>, AllocError>
-    ensures lines { IfOk result (λ lines. lines.items ≡ tape_lines F.Field.arithmetic F.Coordinates.layout F.CodedField.bits validator pads.now tape.now) }
+    ensures lines { IfOk result
+        (λ lines. lines.items ≡ tape_lines F.arithmetic F.layout F.bits
+        validator pads.now tape.now) }
     ensures whole { OnOk result (RecordsAreWhole tape.now) }
 {
     let mut reader = Reader::new(tape);
     let mut lines = Vec::new(heap);
+    // No `while let`, and no `?`: the first fault of the tape ends the loop as its end does, but has a line.
     loop {
-        let count = lines.len();
+        let number = lines.len() + 1;
         match reader.next() {
-            Ok(Some(item)) => {
-                let line = answer(&mut validator, pads, count + 1, item);
-                lines.push(line)?;
-            }
-            Ok(None) => {
-                lines.push(Line::End(count))?;
-                return Ok(lines);
-            }
+            Ok(Some(item)) => lines.push(answer(&mut validator, pads, number, item))?,
+            Ok(None) => break,
             Err(fault) => {
-                lines.push(Line::Refused(count + 1, fault))?;
-                lines.push(Line::End(count + 1))?;
-                return Ok(lines);
+                lines.push(Line::Refused(number, fault))?;
+                break;
             }
         }
     }
+    let count = lines.len();
+    lines.push(Line::End(count))?;
+    Ok(lines)
 }
 
-// Makes the validator of a shift in a place, and gives the other parts of its input.
-fn begin<'a, F: CodedField>(
-    place: &mut Option<Validator<F>>,
-    input: &'a [u8],
-) -> Result<Input<'a>, Fault>
-    ensures { MatchResult result (λ i. Begun F.Field.arithmetic F.Coordinates.layout F.CodedField.bits input.now place.new i.pads.now i.tape.now) (λ f. start_answer F.Field.arithmetic F.Coordinates.layout F.CodedField.bits input.now ≡ Err f) }
+// The blank validator with the key of an input, and the parts of the input.
+fn begin<F: CodedField>(input: &[u8]) -> Result<(Validator<F>, Input<'_>), Fault>
+    ensures { MatchResult result
+        (λ b. Begun F.arithmetic F.layout F.bits
+        input.now b.0 b.1.pads.now b.1.tape.now)
+        (λ f. start_answer F.arithmetic F.layout F.bits input.now ≡ Err f) }
 {
     let parts = open_input::<F>(input)?;
-    Validator::make(place, parts.key)?;
-    Ok(parts)
+    Ok((Validator::new(parts.key)?, parts))
 }
 
 // The lines of a shift that does not begin.
 fn not_begun(heap: Global, fault: Fault) -> Result<Vec<Line>, AllocError>
     ensures { IfOk result (λ lines. lines.items ≡ Refused 0 fault ∷ End 1 ∷ []) }
 {
-    let mut lines = Vec::new(heap);
-    lines.push(Line::Refused(0, fault))?;
-    lines.push(Line::End(1))?;
-    Ok(lines)
+    Ok(vec![in heap; Line::Refused(0, fault), Line::End(1)]?)
 }
 
 // The lines of a whole shift: of each record on its tape, or of the one fault with which it does not begin, and a last one.
 pub fn play<F: CodedField>(heap: Global, input: &[u8]) -> Result<Vec<Line>, AllocError>
-    ensures lines { IfOk result (λ lines. lines.items ≡ shift_lines F.Field.arithmetic F.Coordinates.layout F.CodedField.bits input.now) }
-    ensures whole_tape { IfOk result (λ lines. PlaysTheWholeTape F.Field.arithmetic F.Coordinates.layout F.CodedField.bits input.now lines.items) }
+    ensures lines { IfOk result (λ lines. lines.items ≡ shift_lines F.arithmetic F.layout F.bits input.now) }
+    ensures whole_tape { IfOk result
+        (λ lines. PlaysTheWholeTape F.arithmetic F.layout F.bits input.now lines.items) }
 {
-    let mut place = None;
-    match begin::<F>(&mut place, input) {
-        Ok(parts) => {
-            let Some(validator) = place else {
-                unreachable()
-            };
-            let lines = play_tape(heap, validator, parts.pads, parts.tape)?;
-            Ok(lines)
-        }
+    match begin::<F>(input) {
+        Ok((validator, parts)) => play_tape(heap, validator, parts.pads, parts.tape),
         Err(fault) => not_begun(heap, fault),
     }
 }

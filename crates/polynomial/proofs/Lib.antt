@@ -2,3 +2,4 @@ pub mod Remainders
 pub mod Folds
 pub mod Sums
 pub mod Building
+pub mod FromFn

@@ -4,7 +4,7 @@ use native.Mathlib.Nat.{mod-mod, mod-add-mod, add-mod-mod, div-add-mod, add-mul-
 use lib.Lanes.{Each1, zip2}
 use Rattle.std.specs.List.{range_with_len}
 use Rattle.std.proofs.lemmas.Nat.{mod_below}
-use Rattle.prime.specs.Remainders.{times_mod_left, times_mod_right}
+use Rattle.std.proofs.lemmas.Nat.{mul-mod_first, mul-mod_second}
 use Rattle.polynomial.specs.Product.{sum, products_at, place, coefficient_of, places, remainders, polynomial_times, polynomial_plus, polynomial_opposite}
 
 module _ (q : ℕ) where
@@ -18,7 +18,7 @@ module _ (q : ℕ) where
 
   like_times : (a b c d : ℕ) → Like a b → Like c d → Like (a * c) (b * d)
   like_times a b c d p r =
-      sym (times_mod_left a c q) ∙ ap (λ (t : ℕ). (t * c) % q) p ∙ times_mod_left b c q ∙ sym (times_mod_right b c q) ∙ ap (λ (t : ℕ). (b * t) % q) r ∙ times_mod_right b d q
+      sym (mul-mod_first a c q) ∙ ap (λ (t : ℕ). (t * c) % q) p ∙ mul-mod_first b c q ∙ sym (mul-mod_second b c q) ∙ ap (λ (t : ℕ). (b * t) % q) r ∙ mul-mod_second b d q
 
   like_sum : (n : ℕ) (f g : ℕ → ℕ) → ((i : ℕ) → Like (f i) (g i)) → Like (sum n f) (sum n g)
   like_sum zero f g h = refl

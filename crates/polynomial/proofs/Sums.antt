@@ -192,7 +192,7 @@ pair_small (x ∷ xs) (y ∷ ys) a b = (let s : x < 1073741824 = a.0 in let t : 
 
 -- ---- the product by X: each lane one place on, and the last one, doubled, at the first place
 
-abbrev moved : List ℕ → List ℕ
+abbrev pub moved : List ℕ → List ℕ
 moved x = pick_l 0 (x ++ add16 x x) (15 ∷ 0 ∷ 1 ∷ 2 ∷ 3 ∷ 4 ∷ 5 ∷ 6 ∷ [])
 
 moved_listed : (f : ℕ → ℕ) → Small (f 7) → moved (eight f) ≡ places polynomial_x (eight f)

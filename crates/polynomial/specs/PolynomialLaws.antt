@@ -1,8 +1,9 @@
 -- The polynomial basis is a field: its laws are carried over from the tower of three extensions.
-use Rattle.std.specs.Prelude.{◌≡◌, ℕ, zero, suc, ◌%◌, ◌<◌, List, [], ◌∷◌, length, set, slice_index_or, slice_set, refl}
-use Rattle.std.proofs.Common.{sym, ap, ap₂, ◌∙◌, map-id, mod-lt, mod-eq_of_lt, length-set}
+use Rattle.std.specs.Prelude.{◌≡◌, ℕ, zero, suc, ◌%◌, ◌<◌, List, [], ◌∷◌, length, set, slice_index_or, slice_set, nat_eq, refl}
+use Rattle.std.proofs.Common.{eqb-true, eq-eqb, sym, ap, ◌∙◌, map-id, mod-lt, mod-eq_of_lt, length-set}
+use Rattle.std.specs.Cmp.Lexicographic.{pointwise, pointwise_decides}
 use Rattle.std.specs.Simd.Lanes.{Each1}
-use Rattle.field.specs.Fields.{Laws}
+use Rattle.field.specs.Fields.{Laws, EqualByMeaning}
 use Rattle.field.specs.Extensions.{Tower, tower}
 use Rattle.field.specs.Coordinates.{CoordinateLaws}
 use Rattle.field.proofs.UniqueInverses.{tower_laws}
@@ -11,7 +12,7 @@ use Rattle.prime.specs.Moduli.{PrimeModulus}
 use Rattle.prime.specs.Residues.{residues}
 use Rattle.prime.specs.ResidueLaws.{residue_laws, positive}
 use Rattle.polynomial.specs.Product.{remainders}
-use Rattle.polynomial.specs.Polynomials.{polynomials, polynomial_layout, eight_remainders}
+use Rattle.polynomial.specs.Polynomials.{polynomials, polynomial_basis, polynomial_layout, eight_remainders}
 use Rattle.polynomial.specs.BitReversal.{bit_reversal_of}
 use Rattle.polynomial.specs.Lists.{of_eight, map_where}
 use Rattle.polynomial.specs.Reversals.{reversal_carries}
@@ -34,13 +35,6 @@ remainders_set q (x ∷ xs) (suc k) v = ap (λ (t : List ℕ). (x % q) ∷ t) (r
 pub eight_set : (q : ℕ) (xs : List ℕ) (k v : ℕ) → length xs ≡ 8 → eight_remainders q (slice_set xs k v) ≡ slice_set (eight_remainders q xs) k (v % q)
 eight_set q xs k v l =
     eight_of_eight q (slice_set xs k v) (length-set xs k v ∙ l) ∙ remainders_set q xs k v ∙ ap (λ (t : List ℕ). set t k (v % q)) (sym (eight_of_eight q xs l))
-
--- an equation of remainders of lists of eight, with the lists read place by place
-pub of_one : (op : List ℕ → List ℕ) (q : ℕ) (r f : List ℕ) → length r ≡ 8 → length f ≡ 8 → remainders q r ≡ op (remainders q f) → eight_remainders q r ≡ op (eight_remainders q f)
-of_one op q r f lr lf e = eight_of_eight q r lr ∙ e ∙ ap op (sym (eight_of_eight q f lf))
-
-pub of_two : (op : List ℕ → List ℕ → List ℕ) (q : ℕ) (r f h : List ℕ) → length r ≡ 8 → length f ≡ 8 → length h ≡ 8 → remainders q r ≡ op (remainders q f) (remainders q h) → eight_remainders q r ≡ op (eight_remainders q f) (eight_remainders q h)
-of_two op q r f h lr lf lh e = eight_of_eight q r lr ∙ e ∙ ap₂ op (sym (eight_of_eight q f lf)) (sym (eight_of_eight q h lh))
 
 -- eight numbers by power, as the tower has them, and back
 abbrev in_tower : List ℕ → Tower ℕ 3
@@ -71,3 +65,12 @@ module _ {W : Type 0} (q width root : ℕ) (p : PrimeModulus q width root) (kept
     meant_back = λ xs c. refl;
     zero_tells_zero = refl;
   }
+
+pub basis_laws : {M : Type 0} {q width root : ℕ} → PrimeModulus q width root → Laws (polynomial_basis {M = M} q root)
+basis_laws p = polynomial_laws _ _ _ p (λ x. x.kept) (λ xs. (record { kept = xs; modulus = record {} }, refl))
+
+pub basis_coordinates : {M : Type 0} {q width root : ℕ} → PrimeModulus q width root → CoordinateLaws (polynomial_basis {M = M} q root) (polynomial_layout q)
+basis_coordinates p = polynomial_coordinate_laws _ _ _ p (λ x. x.kept) (λ xs. (record { kept = xs; modulus = record {} }, refl))
+
+pub basis_equal_by_meaning : {M : Type 0} (q root : ℕ) → EqualByMeaning (polynomial_basis {M = M} q root) (λ x y. pointwise nat_eq (eight_remainders q x.kept) (eight_remainders q y.kept))
+basis_equal_by_meaning q root x y = pointwise_decides (λ m n. (eqb-true m n, eq-eqb m n)) (eight_remainders q x.kept) (eight_remainders q y.kept)

@@ -3,6 +3,7 @@ use Rattle.std.specs.Prelude.{ℕ, ◌%◌, List, [], ◌∷◌, map, slice_inde
 use Rattle.std.specs.List.{range_with_len}
 use Rattle.field.specs.Fields.{Arithmetic}
 use Rattle.field.specs.Coordinates.{Layout}
+use Rattle.polynomial.specs.declared.basis.PolynomialBasis.{PolynomialBasis}
 use Rattle.polynomial.specs.Product.{polynomial_plus, polynomial_times, polynomial_opposite, polynomial_x}
 
 -- the coefficient n at power 0, and 0 at the seven others
@@ -26,6 +27,9 @@ polynomials q root kept = record {
   non_residue = polynomial_x;
   sqrt_minus_one = constant root;
 }
+
+abbrev pub polynomial_basis : {M : Type 0} → ℕ → ℕ → Arithmetic (PolynomialBasis M)
+polynomial_basis q root = polynomials q root (λ x. x.kept)
 
 abbrev pub polynomial_layout : ℕ → Layout
 polynomial_layout q = record { count = 8; modulus = q; by_power = λ x. x; from_power = λ xs. xs }

@@ -8,7 +8,7 @@ use Rattle.field.specs.Extensions.{Tower, tower}
 use Rattle.field.proofs.Transport.{Carries}
 use Rattle.prime.specs.Residues.{residues}
 use Rattle.prime.specs.Towers.{long_tower}
-use Rattle.prime.specs.Remainders.{times_mod_right}
+use Rattle.std.proofs.lemmas.Nat.{mul-mod_second}
 use Rattle.polynomial.specs.Product.{polynomial_times, polynomial_plus, polynomial_opposite}
 use Rattle.polynomial.specs.Polynomials.{polynomials, constant}
 use Rattle.polynomial.specs.BitReversal.{bit_reversal_of, KeepsSumsAndProducts}
@@ -24,7 +24,7 @@ reversed_twice = of_eight (λ xs. bit_reversal_of 3 (bit_reversal_of 3 xs) ≡ x
 pub reversed_length : (xs : List ℕ) → length xs ≡ 8 → length (bit_reversal_of 3 xs) ≡ 8
 reversed_length = of_eight (λ xs. length (bit_reversal_of 3 xs) ≡ 8) (λ a b c d e f g h. refl)
 
-ruleset reducing = (mod-add-mod, add-mod-mod, times_mod_right, mod-mod, zero-mul, one-mul, zero-add, add-zero, mul-add)
+ruleset reducing = (mod-add-mod, add-mod-mod, mul-mod_second, mod-mod, zero-mul, one-mul, zero-add, add-zero, mul-add)
 
 -- the product of two long tower values, and that of their bit reversals, written out
 module _ (q root a0 a1 a2 a3 a4 a5 a6 a7 b0 b1 b2 b3 b4 b5 b6 b7 : ℕ) where

@@ -1,60 +1,80 @@
 //! The polynomial basis: eight coefficients by power of X, with X⁸ = 2.
-ghost use Rattle.std.specs.Prelude.{◌≡◌, ◌<◌, true, refl};
-ghost use Rattle.field.specs.Coordinates.{below_before};
-ghost use Rattle.polynomial.specs.Polynomials.{polynomials, polynomial_layout, eight_remainders};
-ghost use Rattle.polynomial.specs.PolynomialLaws.{polynomial_laws, polynomial_coordinate_laws};
+ghost use Rattle.std.specs.Prelude.{◌≡◌, nat_eq, nat_le};
+ghost use Rattle.std.proofs.Common.{rules};
+ghost use Rattle.std.specs.Cmp.Lexicographic.{pointwise};
+ghost use Rattle.std.specs.Cmp.Rules.{comparing};
+ghost use Rattle.std.specs.List.{position};
+ghost use Rattle.std.specs.Ordering.{on};
+ghost use Rattle.polynomial.specs.Polynomials.{polynomial_basis, polynomial_layout, eight_remainders};
+ghost use Rattle.polynomial.specs.PolynomialLaws.{basis_laws, basis_coordinates, basis_equal_by_meaning};
 
-use super::lanes;
-use super::reversal::{to_polynomial, to_tower};
+use super::lanes::PseudoMersenne;
 use fault::{Fault, Part, Refusal};
 use field::{Coordinates, Field};
-use prime::Modulus;
+use prime::{LongTower, Modulus};
+use std::marker::PhantomData;
 
 // Eight coefficients by power of X. Each is any 16-bit number, and means its remainder by the modulus.
 #[derive(Clone, Copy)]
 pub struct PolynomialBasis<M> {
     pub(crate) kept: [u16; 8],
-    pub(crate) modulus: M,
+    modulus: PhantomData<M>,
+}
+
+impl<M: Modulus> PolynomialBasis<M> {
+    pub(crate) fn keeping(kept: [u16; 8]) -> Self
+        ensures { result.kept ≡ kept }
+    {
+        PolynomialBasis {
+            kept,
+            modulus: PhantomData,
+        }
+    }
+
+    // The coefficients below the modulus.
+    pub(crate) fn numbers(self) -> [u16; 8]
+        ensures { result ≡ eight_remainders M.Q self.kept }
+    {
+        PseudoMersenne::of::<M>().remainders(self.kept)
+    }
+}
+
+// By remainder: a derived one would tell two kept lists of one meaning apart.
+impl<M: Modulus> PartialEq for PolynomialBasis<M> {
+    ghost eq = { on (λ x. eight_remainders M.Q x.kept) (pointwise nat_eq) };
+
+    ghost laws = { Prim.search (comparing, rules) };
+
+    fn eq(&self, other: &Self) -> bool {
+        self.numbers() == other.numbers()
+    }
 }
 
 impl<M: Modulus> Field for PolynomialBasis<M> {
-    ghost arithmetic = { polynomials M.Modulus.q M.Modulus.root (λ x. x.kept) };
+    ghost arithmetic = { polynomial_basis M.Q M.ROOT };
 
-    ghost laws = { let m = M.Modulus in polynomial_laws m.q m.bits m.root M.Modulus.prime (λ x. x.kept) (λ xs. (record { kept = xs; modulus = m.mark }, refl)) };
+    ghost laws = { basis_laws M.prime };
+
+    ghost equal_by_meaning = { basis_equal_by_meaning M.Q M.ROOT };
 
     fn zero() -> Self {
-        PolynomialBasis {
-            kept: [0; 8],
-            modulus: M::marker(),
-        }
+        Self::keeping([0; 8])
     }
 
     fn one() -> Self {
-        PolynomialBasis {
-            kept: [1, 0, 0, 0, 0, 0, 0, 0],
-            modulus: M::marker(),
-        }
+        Self::keeping([1, 0, 0, 0, 0, 0, 0, 0])
     }
 
     fn add(self, other: Self) -> Self {
-        PolynomialBasis {
-            kept: lanes::plus(self.kept, other.kept, M::width()),
-            modulus: M::marker(),
-        }
+        Self::keeping(PseudoMersenne::of::<M>().plus(self.kept, other.kept))
     }
 
     fn neg(self) -> Self {
-        PolynomialBasis {
-            kept: lanes::opposite(self.kept, M::width()),
-            modulus: M::marker(),
-        }
+        Self::keeping(PseudoMersenne::of::<M>().opposite(self.kept))
     }
 
     fn mul(self, other: Self) -> Self {
-        PolynomialBasis {
-            kept: lanes::times(self.kept, other.kept, M::width()),
-            modulus: M::marker(),
-        }
+        Self::keeping(PseudoMersenne::of::<M>().times(self.kept, other.kept))
     }
 
     fn square(self) -> Self {
@@ -62,70 +82,42 @@ impl<M: Modulus> Field for PolynomialBasis<M> {
     }
 
     fn sum_of_products(
-        a: Self,
-        k: Self,
-        b: Self,
-        l: Self,
-        c: Self,
-        m: Self,
-        d: Self,
-        n: Self,
+        a: &(Self, Self),
+        b: &(Self, Self),
+        c: &(Self, Self),
+        d: &(Self, Self),
     ) -> Self {
-        PolynomialBasis {
-            kept: lanes::sum_of_products(
-                a.kept,
-                k.kept,
-                b.kept,
-                l.kept,
-                c.kept,
-                m.kept,
-                d.kept,
-                n.kept,
-                M::width(),
-            ),
-            modulus: M::marker(),
-        }
+        Self::keeping(PseudoMersenne::of::<M>().sum_of_products(
+            (a.0.kept, a.1.kept),
+            (b.0.kept, b.1.kept),
+            (c.0.kept, c.1.kept),
+            (d.0.kept, d.1.kept),
+        ))
     }
 
     // The candidate is tried: where its product with this value is one it is the inverse, however it was found,
     // so nothing is proved of `likely_inverse`. Where it fails, as for zero, the long tower decides, which refuses
     // zero and inverts every other value.
     fn inverse(self) -> Result<Self, Fault> {
-        let candidate = PolynomialBasis {
-            kept: likely_inverse::<M>(self.kept),
-            modulus: M::marker(),
-        };
-        if self.mul(candidate).same(Self::one()) {
+        let candidate = Self::keeping(likely_inverse::<M>(self.kept));
+        if self.mul(candidate) == Self::one() {
             return Ok(candidate);
         }
-        let inverse = to_tower(self).inverse()?;
-        Ok(to_polynomial(inverse))
+        let inverse = LongTower::from(self).inverse()?;
+        Ok(Self::from(inverse))
     }
 
     // X itself
     fn non_residue() -> Self {
-        PolynomialBasis {
-            kept: [0, 1, 0, 0, 0, 0, 0, 0],
-            modulus: M::marker(),
-        }
+        Self::keeping([0, 1, 0, 0, 0, 0, 0, 0])
     }
 
     fn mul_by_non_residue(self) -> Self {
-        PolynomialBasis {
-            kept: lanes::times_x(self.kept, M::width()),
-            modulus: M::marker(),
-        }
+        Self::keeping(PseudoMersenne::of::<M>().times_x(self.kept))
     }
 
     fn sqrt_minus_one() -> Self {
-        PolynomialBasis {
-            kept: [M::sqrt_minus_one(), 0, 0, 0, 0, 0, 0, 0],
-            modulus: M::marker(),
-        }
-    }
-
-    fn same(self, other: Self) -> bool {
-        same_remainders(&self.kept, &other.kept, M::modulus())
+        Self::keeping([M::sqrt_minus_one(), 0, 0, 0, 0, 0, 0, 0])
     }
 }
 
@@ -139,35 +131,22 @@ const FOUR: [bool; 8] = [false, false, false, false, true, false, false, false];
 // The inverse of f by norms. A polynomial times the same with its signs at odd powers turned has even powers alone,
 // so three such products, in X, X² and X⁴, lead from f to a number, and the table has that number's inverse.
 fn likely_inverse<M: Modulus>(f: [u16; 8]) -> [u16; 8] {
-    let width = M::width();
-    let first = lanes::turned(f, ODD, width);
-    let even = lanes::times(f, first, width);
-    let second = lanes::turned(even, TWO_AND_SIX, width);
-    let pair = lanes::times(even, second, width);
-    let third = lanes::turned(pair, FOUR, width);
-    let number = lanes::times(pair, third, width);
-    let factor = [M::inverse_entry(number[0]), 0, 0, 0, 0, 0, 0, 0];
-    let conjugates = lanes::times(lanes::times(first, second, width), third, width);
-    lanes::times(conjugates, factor, width)
-}
-
-// Whether the two lists leave the same by q at every place.
-fn same_remainders(f: &[u16; 8], h: &[u16; 8], q: u16) -> bool
-    requires { 0 < q }
-    ensures { (result ≡ true → eight_remainders q f.now ≡ eight_remainders q h.now) × (eight_remainders q f.now ≡ eight_remainders q h.now → result ≡ true) }
-{
-    for k in 0..8 {
-        if f[k] % q != h[k] % q {
-            return false;
-        }
-    }
-    true
+    let q = PseudoMersenne::of::<M>();
+    let first = q.turned(f, ODD);
+    let even = q.times(f, first);
+    let second = q.turned(even, TWO_AND_SIX);
+    let pair = q.times(even, second);
+    let third = q.turned(pair, FOUR);
+    let [number, ..] = q.times(pair, third);
+    let factor = [M::inverse_entry(number), 0, 0, 0, 0, 0, 0, 0];
+    let conjugates = q.times(q.times(first, second), third);
+    q.times(conjugates, factor)
 }
 
 impl<M: Modulus> Coordinates for PolynomialBasis<M> {
-    ghost layout = { polynomial_layout M.Modulus.q };
+    ghost layout = { polynomial_layout M.Q };
 
-    ghost coordinates = { let m = M.Modulus in polynomial_coordinate_laws m.q m.bits m.root M.Modulus.prime (λ x. x.kept) (λ xs. (record { kept = xs; modulus = m.mark }, refl)) };
+    ghost coordinates = { basis_coordinates M.prime };
 
     fn modulus() -> u16 {
         M::modulus()
@@ -178,61 +157,36 @@ impl<M: Modulus> Coordinates for PolynomialBasis<M> {
     }
 
     fn coefficient(self, power: usize) -> u16 {
-        if power < 8 {
-            self.kept[power] % M::modulus()
-        } else {
-            0
-        }
+        self.kept
+            .get(power)
+            .map_or(0, |number| *number % M::modulus())
     }
 
     fn with_coefficient(self, power: usize, coefficient: u16) -> Result<Self, Fault> {
-        if coefficient >= M::modulus() {
-            return Err(Fault::new(Refusal::CoefficientOutOfRange, Part::Call, power));
-        }
+        Self::check_range(power, coefficient)?;
         if power >= 8 {
             return Ok(self);
         }
         let mut kept = self.kept;
         kept[power] = coefficient;
-        Ok(PolynomialBasis {
-            kept,
-            modulus: M::marker(),
-        })
+        Ok(Self::keeping(kept))
     }
 
     // All eight at once, where the provided function would build as many values.
     fn from_coefficients(coefficients: &[u16]) -> Result<Self, Fault> {
-        if coefficients.len() != 8 {
+        let Ok(kept) = <[u16; 8]>::try_from(coefficients) else {
             return Err(Fault::of_call(Refusal::WrongSize));
+        };
+        match first_from(&kept, M::modulus()) {
+            Some(power) => Err(Fault::new(Refusal::CoefficientOutOfRange, Part::Call, power)),
+            None => Ok(Self::keeping(kept)),
         }
-        let power = count_below(coefficients, M::modulus());
-        if power < 8 {
-            return Err(Fault::new(Refusal::CoefficientOutOfRange, Part::Call, power));
-        }
-        Ok(PolynomialBasis {
-            kept: [
-                coefficients[0],
-                coefficients[1],
-                coefficients[2],
-                coefficients[3],
-                coefficients[4],
-                coefficients[5],
-                coefficients[6],
-                coefficients[7],
-            ],
-            modulus: M::marker(),
-        })
     }
 }
 
-// How many numbers come before the first that is not below q.
-fn count_below(numbers: &[u16], q: u16) -> usize
-    ensures { result ≡ below_before q numbers.now }
+// The place of the first number that is q or more.
+fn first_from(numbers: &[u16], q: u16) -> Option<usize>
+    ensures { result ≡ position (λ n. nat_le q n) numbers.now }
 {
-    for (place, number) in numbers.iter().enumerate() {
-        if *number >= q {
-            return place;
-        }
-    }
-    numbers.len()
+    numbers.iter().position(|number| *number >= q)
 }

@@ -1,132 +1,152 @@
-// Polynomials of eight coefficients by power of X, with X^8 = 2, modulo q, where 2^width = q + 3.
-// A coefficient is any u16, and means its remainder by q. The vectors have a lane for each.
-ghost use Rattle.std.specs.Prelude.{◌≡◌, ℕ, ◌+◌, ◌^◌, ◌<◌, ◌≤◌, map};
-ghost use Rattle.polynomial.specs.Folds.{folded};
-ghost use Rattle.polynomial.specs.Product.{places, remainders, polynomial_plus, polynomial_opposite, polynomial_times, polynomial_x};
+//! Polynomials of eight coefficients by power of X, with X^8 = 2, modulo q. A coefficient is any u16, and means its
+//! remainder by q. The vectors have a lane for each.
+ghost use Rattle.std.specs.Prelude.{◌≡◌, ◌+◌, ◌^◌, ◌<◌, ◌≤◌, List, ℕ, map};
 ghost use Rattle.std.specs.Simd.Lanes.{Each1, products, pair_sums};
+ghost use Rattle.polynomial.specs.Folds.{folded};
+ghost use Rattle.polynomial.specs.Polynomials.{eight_remainders};
+ghost use Rattle.polynomial.specs.Product.{places, remainders, polynomial_plus, polynomial_opposite, polynomial_times, polynomial_x};
 
+use prime::Modulus;
 use std::simd::prelude::*;
 
-pub(crate) fn plus(f: [u16; 8], h: [u16; 8], width: u16) -> [u16; 8]
-    requires { (6 ≤ width) × (width ≤ 12) }
-    ensures { (q : ℕ) → 2 ^ width ≡ q + 3 → remainders q result ≡ polynomial_plus q (remainders q f) (remainders q h) }
-{
-    let sums = fold16(u16x8::from_array(f), width) + fold16(u16x8::from_array(h), width);
-    sums.to_array()
+// A pseudo-Mersenne modulus q: 3 below a power of two. It is a value, since the compiler turns folds by a number that it
+// knows into multiplications: with functions that are generic in the modulus, a product takes half as long again.
+#[derive(Clone, Copy)]
+pub(crate) struct PseudoMersenne {
+    q: u16,
+    bits: u16,
+    ghost from: { 6 ≤ bits },
+    ghost to: { bits ≤ 12 },
+    ghost power: { 2 ^ bits ≡ q + 3 },
 }
 
-pub(crate) fn opposite(f: [u16; 8], width: u16) -> [u16; 8]
-    requires { (6 ≤ width) × (width ≤ 12) }
-    ensures { (q : ℕ) → 2 ^ width ≡ q + 3 → remainders q result ≡ polynomial_opposite q (remainders q f) }
-{
-    // A multiple of q that no folded lane passes: it is above 2^14 at each width.
-    let multiple = ((1 << width) - 3) << (15 - width);
-    let rest = u16x8::splat(multiple) - fold16(u16x8::from_array(f), width);
-    rest.to_array()
-}
-
-// The polynomial with the signs at these powers turned. It promises nothing: what is found with it is tried.
-pub(crate) fn turned(f: [u16; 8], powers: [bool; 8], width: u16) -> [u16; 8]
-    requires { (6 ≤ width) × (width ≤ 12) }
-{
-    let opposites = u16x8::from_array(opposite(f, width));
-    mask16x8::from_array(powers)
-        .select(opposites, u16x8::from_array(f))
-        .to_array()
-}
-
-// The faster with the factor that stays the same over a loop, if one does, as `h`.
-pub(crate) fn times(f: [u16; 8], h: [u16; 8], width: u16) -> [u16; 8]
-    requires { (6 ≤ width) × (width ≤ 12) }
-    ensures { (q : ℕ) → 2 ^ width ≡ q + 3 → remainders q result ≡ polynomial_times q (remainders q f) (remainders q h) }
-{
-    reduce(product_sums(f, h, width), width).to_array()
-}
-
-// f·h + f1·h1 + f2·h2 + f3·h3, reduced once. As in `times`, a factor that stays the same should be the second.
-pub(crate) fn sum_of_products(
-    f: [u16; 8],
-    h: [u16; 8],
-    f1: [u16; 8],
-    h1: [u16; 8],
-    f2: [u16; 8],
-    h2: [u16; 8],
-    f3: [u16; 8],
-    h3: [u16; 8],
-    width: u16,
-) -> [u16; 8]
-    requires { (6 ≤ width) × (width ≤ 12) }
-    ensures { (q : ℕ) → 2 ^ width ≡ q + 3 → remainders q result ≡ polynomial_plus q (polynomial_plus q (polynomial_times q (remainders q f) (remainders q h)) (polynomial_times q (remainders q f1) (remainders q h1))) (polynomial_plus q (polynomial_times q (remainders q f2) (remainders q h2)) (polynomial_times q (remainders q f3) (remainders q h3))) }
-{
-    // The lanes of four products do not wrap.
-    let first = product_sums(f, h, width) + product_sums(f1, h1, width);
-    let last = product_sums(f2, h2, width) + product_sums(f3, h3, width);
-    reduce(first + last, width).to_array()
-}
-
-pub(crate) fn times_x(f: [u16; 8], width: u16) -> [u16; 8]
-    requires { (6 ≤ width) × (width ≤ 12) }
-    ensures { (q : ℕ) → 2 ^ width ≡ q + 3 → remainders q result ≡ polynomial_times q polynomial_x (remainders q f) }
-{
-    let x = fold16(u16x8::from_array(f), width);
-    // X times X^7 is 2, so the last lane comes first, doubled.
-    x.shuffle(x + x, [15, 0, 1, 2, 3, 4, 5, 6]).to_array()
-}
-
-// Each lane's bits from `width` on, three times, plus those below: the same remainder by q.
-fn fold16(x: u16x8, width: u16) -> u16x8
-    requires { (6 ≤ width) × (width ≤ 12) }
-    ensures same { (q : ℕ) → 2 ^ width ≡ q + 3 → remainders q result ≡ remainders q x }
-    ensures small { Each1 (λ n. n < 8192) result }
-{
-    let high = x >> u16x8::splat(width);
-    high + high + high + (x & u16x8::splat((1 << width) - 1))
-}
-
-// The same lanes as `fold16`, from which the compiler learns no bound. So it keeps the mask of `pair_sums`
-// where it computes this factor ahead of a loop, and there the product is a third faster.
-fn fold16_by_product(x: u16x8, width: u16) -> u16x8
-    requires { (6 ≤ width) × (width ≤ 12) }
-    ensures same { (q : ℕ) → 2 ^ width ≡ q + 3 → remainders q result ≡ remainders q x }
-    ensures small { Each1 (λ n. n < 8192) result }
-{
-    let high = x >> u16x8::splat(width);
-    x - high * u16x8::splat((1 << width) - 3)
-}
-
-fn fold32(x: u32x8, width: u16) -> u32x8
-    requires { (6 ≤ width) × (width ≤ 12) }
-    ensures { result ≡ map (folded width) x }
-{
-    let high = x >> u32x8::splat(width as u32);
-    high + high + high + (x & u32x8::splat((1 << width) - 1))
-}
-
-// Brings each lane, whatever it is, below 2^16: two folds do from width 10 on, and four below.
-fn reduce(s: u32x8, width: u16) -> u16x8
-    requires { (6 ≤ width) × (width ≤ 12) }
-    ensures { (q : ℕ) → 2 ^ width ≡ q + 3 → remainders q result ≡ remainders q s }
-{
-    let once = fold32(s, width);
-    let twice = fold32(once, width);
-    if width >= 10 {
-        return twice.cast::<u16>();
+impl PseudoMersenne {
+    pub(crate) fn of<M: Modulus>() -> Self
+        ensures { result.q ≡ M.Q }
+    {
+        PseudoMersenne {
+            q: M::modulus(),
+            bits: M::width(),
+        }
     }
-    let thrice = fold32(twice, width);
-    let last = fold32(thrice, width);
-    last.cast::<u16>()
-}
 
-// The places of a product, not reduced.
-fn product_sums(f: [u16; 8], h: [u16; 8], width: u16) -> u32x8
-    requires { (6 ≤ width) × (width ≤ 12) }
-    ensures same { (q : ℕ) → 2 ^ width ≡ q + 3 → remainders q result ≡ polynomial_times q (remainders q f) (remainders q h) }
-    ensures small { Each1 (λ n. n < 1073741824) result }
-{
-    sums_of_products(
-        fold16(u16x8::from_array(f), width),
-        fold16_by_product(u16x8::from_array(h), width),
-    )
+    pub(crate) fn remainders(self, f: [u16; 8]) -> [u16; 8]
+        ensures { result ≡ eight_remainders self.q f }
+    {
+        (u16x8::from_array(f) % u16x8::splat(self.q)).to_array()
+    }
+
+    pub(crate) fn plus(self, f: [u16; 8], h: [u16; 8]) -> [u16; 8]
+        ensures { let q = self.q in
+            eight_remainders q result ≡ polynomial_plus q (eight_remainders q f) (eight_remainders q h) }
+    {
+        let sums = self.fold16(u16x8::from_array(f)) + self.fold16(u16x8::from_array(h));
+        sums.to_array()
+    }
+
+    pub(crate) fn opposite(self, f: [u16; 8]) -> [u16; 8]
+        ensures { let q = self.q in eight_remainders q result ≡ polynomial_opposite q (eight_remainders q f) }
+    {
+        // A multiple of q that no folded lane passes: it is above 2^14 at each width.
+        let multiple = self.q << (15 - self.bits);
+        let rest = u16x8::splat(multiple) - self.fold16(u16x8::from_array(f));
+        rest.to_array()
+    }
+
+    // The polynomial with the signs at these powers turned. It promises nothing: what is found with it is tried.
+    pub(crate) fn turned(self, f: [u16; 8], powers: [bool; 8]) -> [u16; 8] {
+        let opposites = u16x8::from_array(self.opposite(f));
+        mask16x8::from_array(powers)
+            .select(opposites, u16x8::from_array(f))
+            .to_array()
+    }
+
+    // The faster with the factor that stays the same over a loop, if one does, as `h`.
+    pub(crate) fn times(self, f: [u16; 8], h: [u16; 8]) -> [u16; 8]
+        ensures { let q = self.q in
+            eight_remainders q result ≡ polynomial_times q (eight_remainders q f) (eight_remainders q h) }
+    {
+        self.reduce(self.product_sums(f, h)).to_array()
+    }
+
+    // The sum of the products of four pairs, reduced once. As in `times`, a factor that stays the same should be the second.
+    pub(crate) fn sum_of_products(
+        self,
+        a: ([u16; 8], [u16; 8]),
+        b: ([u16; 8], [u16; 8]),
+        c: ([u16; 8], [u16; 8]),
+        d: ([u16; 8], [u16; 8]),
+    ) -> [u16; 8]
+        ensures { let q = self.q in
+            let product : List ℕ × List ℕ → List ℕ = λ p. polynomial_times q (eight_remainders q p.0) (eight_remainders q p.1) in
+            eight_remainders q result ≡ polynomial_plus q (polynomial_plus q (product a) (product b)) (polynomial_plus q (product c) (product d)) }
+    {
+        // The lanes of four products do not wrap.
+        let first = self.product_sums(a.0, a.1) + self.product_sums(b.0, b.1);
+        let last = self.product_sums(c.0, c.1) + self.product_sums(d.0, d.1);
+        self.reduce(first + last).to_array()
+    }
+
+    pub(crate) fn times_x(self, f: [u16; 8]) -> [u16; 8]
+        ensures { let q = self.q in
+            eight_remainders q result ≡ polynomial_times q polynomial_x (eight_remainders q f) }
+    {
+        let x = self.fold16(u16x8::from_array(f));
+        // X times X^7 is 2, so the last lane comes first, doubled.
+        x.shuffle(x + x, [15, 0, 1, 2, 3, 4, 5, 6]).to_array()
+    }
+
+    // Each lane's bits from `bits` on, three times, plus those below: the same remainder by q. The bound of the lanes is a
+    // clause and no type: a struct would be opened at each of the six uses of the lanes, for four clauses.
+    fn fold16(self, x: u16x8) -> u16x8
+        ensures same { remainders self.q result ≡ eight_remainders self.q x }
+        ensures small { Each1 (λ n. n < 8192) result }
+    {
+        let high = x >> u16x8::splat(self.bits);
+        high + high + high + (x & u16x8::splat((1 << self.bits) - 1))
+    }
+
+    // The same lanes as `fold16`, from which the compiler learns no bound. So it keeps the mask of `pair_sums`
+    // where it computes this factor ahead of a loop, and there the product is a third faster.
+    fn fold16_by_product(self, x: u16x8) -> u16x8
+        ensures same { remainders self.q result ≡ eight_remainders self.q x }
+        ensures small { Each1 (λ n. n < 8192) result }
+    {
+        let high = x >> u16x8::splat(self.bits);
+        x - high * u16x8::splat(self.q)
+    }
+
+    // As `fold16`, in wider lanes; the types of lanes share no trait that says what their operations give.
+    fn fold32(self, x: u32x8) -> u32x8
+        ensures same { remainders self.q result ≡ remainders self.q x }
+        ensures is { result ≡ map (folded self.bits) x }
+    {
+        let high = x >> u32x8::splat(self.bits as u32);
+        high + high + high + (x & u32x8::splat((1 << self.bits) - 1))
+    }
+
+    // Brings each lane, whatever it is, below 2^16: two folds do from width 10 on, and four below.
+    fn reduce(self, s: u32x8) -> u16x8
+        ensures { remainders self.q result ≡ remainders self.q s }
+    {
+        let twice = self.fold32(self.fold32(s));
+        if self.bits >= 10 {
+            return twice.cast::<u16>();
+        }
+        self.fold32(self.fold32(twice)).cast::<u16>()
+    }
+
+    // The places of a product, not reduced.
+    fn product_sums(self, f: [u16; 8], h: [u16; 8]) -> u32x8
+        ensures same { let q = self.q in
+            remainders q result ≡ polynomial_times q (eight_remainders q f) (eight_remainders q h) }
+        ensures small { Each1 (λ n. n < 1073741824) result }
+    {
+        sums_of_products(
+            self.fold16(u16x8::from_array(f)),
+            self.fold16_by_product(u16x8::from_array(h)),
+        )
+    }
 }
 
 // The places of the product, two products of each at a time.
@@ -136,7 +156,8 @@ fn sums_of_products(x: u16x8, h: u16x8) -> u32x8
     ensures is { result ≡ places x h }
     ensures small { Each1 (λ n. n < 1073741824) result }
 {
-    // Of the lanes of `d` and then `h`, eight in a row that begin at the place 8 - i are those of X^i·h.
+    // Of the lanes of `d` and then `h`, eight in a row that begin at the place 8 - i are those of X^i·h. The four lists
+    // of places are written out: a shuffle takes constants.
     let d = h + h;
     let s0 = pair_sums(
         x.swizzle([0, 1, 0, 1, 0, 1, 0, 1, 0, 1, 0, 1, 0, 1, 0, 1]),

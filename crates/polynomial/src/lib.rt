@@ -6,4 +6,4 @@ mod lanes;
 mod reversal;
 
 pub use basis::PolynomialBasis;
-pub use reversal::{bit_reversed, to_polynomial, to_tower};
+pub use reversal::bit_reversed;

@@ -1,11 +1,11 @@
 -- One computed test over a whole table of inverses, one over all numbers below a modulus, and what they show.
-use Rattle.std.specs.Prelude.{◌≡◌, refl, Bool, true, false, not, ◌≢◌, List, ℕ, zero, suc, ◌+◌, ◌-◌, ◌*◌, ◌/◌, ◌%◌, ◌^◌, ◌<◌, ◌≤◌, T, eqb, ltb, length, get_or}
+use Rattle.std.specs.Prelude.{◌≡◌, refl, Bool, true, not, cond, ◌&&◌, ◌≢◌, List, ℕ, zero, suc, ◌+◌, ◌-◌, ◌*◌, ◌/◌, ◌%◌, ◌^◌, ◌<◌, ◌≤◌, T, eqb, ltb, length, get_or}
 use Rattle.std.proofs.Common.{sym, subst, ◌∙◌, eqb→eq, ltb→lt, T_not}
-use native.Mathlib.Nat.{mod-eq_of_lt}
+use native.Mathlib.Nat.{mod-lt, mod-eq_of_lt}
 use Rattle.std.proofs.Math.Dec.{eqb_refl}
-use Rattle.prime.specs.Moduli.{PrimeModulus}
-use Rattle.prime.specs.Remainders.{times_mod_left}
-use Rattle.prime.specs.ComputedTests.{both, both_left, both_right, each_below, passed_below, each_entry, passed_entry}
+use Rattle.prime.specs.Moduli.{PrimeModulus, InverseTable}
+use Rattle.std.proofs.lemmas.Nat.{mul-mod_first}
+use Rattle.prime.specs.ComputedTests.{both_left, both_right, each_below, passed_below, each_entry, passed_entry}
 
 -- what is asked of entry x at place k: its product with k leaves 1, and at place 0 it is 0
 abbrev inverts : ℕ → ℕ → ℕ → Bool
@@ -13,7 +13,7 @@ inverts q zero x = eqb x 0
 inverts q (suc k) x = eqb ((suc k * x) % q) 1
 
 abbrev pub right_entry : ℕ → ℕ → ℕ → Bool
-right_entry q k x = both (ltb x q) (inverts q k x)
+right_entry q k x = ltb x q && inverts q k x
 
 inverts_at : (q k x : ℕ) → T (inverts q k x) → k ≢ 0 → (k * x) % q ≡ 1
 inverts_at q zero x t n = absurd (n refl)
@@ -28,26 +28,33 @@ module _ (q : ℕ) (table : List ℕ) (x : ℕ) (t : T (each_entry (right_entry 
   abbrev entry : ℕ
   entry = get_or table (x % q) 0
 
-  passed : T (both (ltb entry q) (inverts q (x % q) entry))
+  passed : T (ltb entry q && inverts q (x % q) entry)
   passed = passed_entry (right_entry q) table t (x % q) h
 
   pub entry_below : get_or table (x % q) 0 ≡ get_or table (x % q) 0 % q
-  entry_below = sym (mod-eq_of_lt (ltb→lt entry q (both_left (ltb entry q) (inverts q (x % q) entry) passed)))
+  entry_below = sym (mod-eq_of_lt (ltb→lt entry q (both_left _ _ passed)))
 
   pub entry_inverts : x % q ≢ 0 → (x * get_or table (x % q) 0) % q ≡ 1
-  entry_inverts n = sym (times_mod_left x entry q) ∙ inverts_at q (x % q) entry (both_right (ltb entry q) (inverts q (x % q) entry) passed) n
+  entry_inverts n = sym (mul-mod_first x entry q) ∙ inverts_at q (x % q) entry (both_right _ _ passed) n
 
   pub entry_zero : x % q ≡ 0 → get_or table (x % q) 0 ≡ 0
-  entry_zero n = inverts_zero q (x % q) entry (both_right (ltb entry q) (inverts q (x % q) entry) passed) n
+  entry_zero n = inverts_zero q (x % q) entry (both_right _ _ passed) n
 
-abbrev choose : Bool → ℕ → ℕ → ℕ
-choose true a b = a
-choose false a b = b
+pub inverse_table : (q : ℕ) (table : List ℕ) → 0 < q → length table ≡ q → T (each_entry (right_entry q) 0 table) → InverseTable q table
+inverse_table q table positive long t = record {
+  long = long;
+  answers = λ x.
+      let h : x % q < length table = rw long (mod-lt x positive) in record {
+        below = rw (entry_below q table x t h) (mod-lt _ positive);
+        inverts = entry_inverts q table x t h;
+        zero = entry_zero q table x t h;
+      };
+}
 
 -- what n to the power e leaves, by squaring; k is at least the number of e's bits
 abbrev power : ℕ → ℕ → ℕ → ℕ → ℕ
 power q zero n e = 1
-power q (suc k) n e = let h = power q k ((n * n) % q) (e / 2) in choose (eqb (e % 2) 1) ((n * h) % q) h
+power q (suc k) n e = let h = power q k ((n * n) % q) (e / 2) in cond (eqb (e % 2) 1) ((n * h) % q) h
 
 -- what is asked of each number n below the modulus: n to the power q − 2 is an inverse, and n squared does not leave 2
 abbrev has_inverse : ℕ → ℕ → Bool
@@ -55,7 +62,7 @@ has_inverse q zero = true
 has_inverse q (suc n) = eqb ((suc n * power q 12 (suc n) (q - 2)) % q) 1
 
 abbrev pub right_number : ℕ → ℕ → Bool
-right_number q n = both (has_inverse q n) (not (eqb ((n * n) % q) 2))
+right_number q n = has_inverse q n && not (eqb ((n * n) % q) 2)
 
 has_inverse_at : (q n : ℕ) → T (has_inverse q n) → n ≢ 0 → (m : ℕ) × ((n * m) % q ≡ 1)
 has_inverse_at q zero t ne = absurd (ne refl)
@@ -69,8 +76,8 @@ prime_modulus q width root three low high above below squared t =
       width_from = low;
       width_to = high;
       above_two = above;
-      inverse_exists = λ n h ne. has_inverse_at q n (both_left (has_inverse q n) (not (eqb ((n * n) % q) 2)) (at n h)) ne;
-      two_has_no_root = λ n h e. T_not (eqb ((n * n) % q) 2) (both_right (has_inverse q n) (not (eqb ((n * n) % q) 2)) (at n h)) (subst (λ (m : ℕ). T (eqb m 2)) (sym e) (eqb_refl 2));
+      inverse_exists = λ n h ne. has_inverse_at q n (both_left _ _ (at n h)) ne;
+      two_has_no_root = λ n h e. T_not (eqb ((n * n) % q) 2) (both_right _ _ (at n h)) (subst (λ (m : ℕ). T (eqb m 2)) (sym e) (eqb_refl 2));
       root_below = below;
       root_squared = squared;
     }

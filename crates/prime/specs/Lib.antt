@@ -2,7 +2,6 @@ pub mod Residues
 pub mod Moduli
 pub mod Towers
 pub mod ResidueLaws
-pub mod Remainders
 pub mod Primes
 pub mod InverseTables
 pub mod ComputedTests

@@ -1,5 +1,5 @@
 -- What a prime modulus owes, and what its table of inverses answers.
-use Rattle.std.specs.Prelude.{◌≡◌, ◌≢◌, ℕ, ◌+◌, ◌-◌, ◌*◌, ◌%◌, ◌^◌, ◌<◌, ◌≤◌}
+use Rattle.std.specs.Prelude.{◌≡◌, ◌≢◌, ℕ, ◌+◌, ◌-◌, ◌*◌, ◌%◌, ◌^◌, ◌<◌, ◌≤◌, List, length, get_or}
 
 -- A modulus q of `width` bits with a root of minus one. Every number but 0 has an inverse, and no number squared leaves 2.
 -- That q is 3 below a power of two lets a remainder be found without a division.
@@ -18,3 +18,8 @@ pub record InverseEntry (q x entry : ℕ) : Type 0 where
   pub below : entry < q
   pub inverts : x % q ≢ 0 → (x * entry) % q ≡ 1
   pub zero : x % q ≡ 0 → entry ≡ 0
+
+-- A table with as many entries as there are remainders by q, which answers for each x at what x leaves.
+pub record InverseTable (q : ℕ) (table : List ℕ) : Type 0 where
+  pub long : length table ≡ q
+  pub answers : (x : ℕ) → InverseEntry q x (get_or table (x % q) 0)

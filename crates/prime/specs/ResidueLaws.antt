@@ -1,12 +1,15 @@
 -- The remainders by a prime modulus are a field.
-use Rattle.std.specs.Prelude.{◌≡◌, refl, List, [], ◌∷◌, ℕ, ◌+◌, ◌-◌, ◌*◌, ◌%◌, ◌<◌, length}
-use Rattle.std.proofs.Common.{sym, ap, ◌∙◌, mod-lt, mod-eq_of_lt, add_comm, add_assoc, mul_comm, mul_assoc, mul-add, add-zero, mul-one, suc-ne-zero, arith}
+use Rattle.std.specs.Prelude.{◌≡◌, refl, List, [], ◌∷◌, ℕ, ◌+◌, ◌-◌, ◌*◌, ◌%◌, ◌<◌, ◌==◌, length}
+use Rattle.std.proofs.Common.{eqb-true, eq-eqb, sym, ap, ◌∙◌, mod-lt, mod-eq_of_lt, add_comm, add_assoc, mul_comm, mul_assoc, mul-add, add-zero, mul-one, suc-ne-zero, arith}
 use Rattle.std.proofs.Math.Nat.{mod-mod, mod-add-mod, add-mod-mod, mod_self, suc_inj}
-use Rattle.field.specs.Fields.{Arithmetic, Laws, Meant}
+use Rattle.field.specs.Fields.{Arithmetic, Laws, Meant, EqualByMeaning}
 use Rattle.field.specs.Coordinates.{Coefficients, CoordinateLaws}
 use Rattle.prime.specs.Moduli.{PrimeModulus}
 use Rattle.prime.specs.Residues.{residues, residue_layout, number, just}
-use Rattle.prime.specs.Remainders.{times_mod_left, times_mod_right}
+use Rattle.std.proofs.lemmas.Nat.{mul-mod_first, mul-mod_second}
+
+pub residues_equal_by_meaning : {V : Type 0} (q root : ℕ) (kept : V → ℕ) → EqualByMeaning (residues q root kept) (λ x y. kept x % q == kept y % q)
+residues_equal_by_meaning q root kept x y = (λ e. ap just (eqb-true _ _ e), λ e. eq-eqb _ _ (ap number e))
 
 module _ {V : Type 0} (q width root : ℕ) (p : PrimeModulus q width root) (kept : V → ℕ) where
   abbrev a : Arithmetic V
@@ -41,14 +44,14 @@ module _ {V : Type 0} (q width root : ℕ) (p : PrimeModulus q width root) (kept
       plus_zero = λ x. ap just (ap (λ (t : ℕ). t % q) (add-zero _) ∙ mod-mod (kept x) q);
       plus_opposite = λ x. ap just (plus_opposite (kept x % q) (below (kept x)));
       times_commutes = λ x y. ap (λ (t : ℕ). just (t % q)) (mul_comm _ _);
-      times_associates = λ x y z. ap just (times_mod_left (kept x % q * (kept y % q)) (kept z % q) q ∙ ap (λ (t : ℕ). t % q) (mul_assoc _ _ _) ∙ sym (times_mod_right (kept x % q) (kept y % q * (kept z % q)) q));
+      times_associates = λ x y z. ap just (mul-mod_first (kept x % q * (kept y % q)) (kept z % q) q ∙ ap (λ (t : ℕ). t % q) (mul_assoc _ _ _) ∙ sym (mul-mod_second (kept x % q) (kept y % q * (kept z % q)) q));
       times_one = λ x. ap just (ap (λ (t : ℕ). t % q) (mul-one _) ∙ mod-mod (kept x) q);
-      distributes = λ x y z. ap just (times_mod_right (kept x % q) (kept y % q + kept z % q) q ∙ ap (λ (t : ℕ). t % q) (mul-add _ _ _) ∙ sym (mod-add-mod _ q _ ∙ add-mod-mod _ _ q));
+      distributes = λ x y z. ap just (mul-mod_second (kept x % q) (kept y % q + kept z % q) q ∙ ap (λ (t : ℕ). t % q) (mul-add _ _ _) ∙ sym (mod-add-mod _ q _ ∙ add-mod-mod _ _ q));
       zero_is_not_one = λ h. let e : ◌≡◌ {A = ℕ} 0 1 = ap number h in omega arith;
       inverse_exists = λ x n.
           let i = p.inverse_exists (kept x % q) (below _) (λ e. n (ap just e)) in
           let m = make i.0 in
-          ∣ (m.0, ap just (ap (λ (t : ℕ). (kept x % q * (t % q)) % q) m.1 ∙ times_mod_right _ _ q ∙ i.1)) ∣₁;
+          ∣ (m.0, ap just (ap (λ (t : ℕ). (kept x % q * (t % q)) % q) m.1 ∙ mul-mod_second _ _ q ∙ i.1)) ∣₁;
       root_squared =
           let above = p.above_two in let one_below : 1 < q = omega arith in let last_below : q - 1 < q = omega arith in
           ap just (p.root_squared ∙ sym (ap (λ (t : ℕ). (q - t) % q) (mod-eq_of_lt one_below) ∙ mod-eq_of_lt last_below));

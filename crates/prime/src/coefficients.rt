@@ -1,18 +1,23 @@
 //! Coefficients: the field of remainders by a prime modulus.
-ghost use Rattle.std.specs.Prelude.{◌≡◌, refl, [], ◌∷◌, ℕ, ◌%◌};
+ghost use Rattle.std.specs.Prelude.{◌≡◌, ◌%◌, nat_eq};
+ghost use Rattle.std.proofs.Common.{rules};
+ghost use Rattle.std.specs.Cmp.Rules.{comparing};
+ghost use Rattle.std.specs.Ordering.{on};
 ghost use Rattle.field.specs.Coordinates.{Built};
-ghost use Rattle.prime.specs.Residues.{residues, residue_layout, just};
-ghost use Rattle.prime.specs.ResidueLaws.{residue_laws, residue_coordinate_laws};
+ghost use Rattle.prime.specs.Residues.{residue_layout, just};
+ghost use Rattle.prime.specs.ResidueLaws.{residues_equal_by_meaning};
+ghost use Rattle.prime.specs.Towers.{coefficient_field, coefficient_laws, coefficient_coordinates};
 
 use super::moduli::Modulus;
-use fault::{Fault, Part, Refusal};
+use fault::{Fault, Refusal};
 use field::{Coordinates, Field, Quadratic};
+use std::marker::PhantomData;
 
 // A coefficient: any 16-bit number, which means its remainder by the modulus.
 #[derive(Clone, Copy)]
 pub struct Coefficient<M> {
     kept: u16,
-    modulus: M,
+    modulus: PhantomData<M>,
 }
 
 // Towers of one and of three quadratic extensions on the coefficients.
@@ -21,69 +26,75 @@ pub type ShortTower<M> = Quadratic<Coefficient<M>>;
 pub type LongTower<M> = Quadratic<Quadratic<Quadratic<Coefficient<M>>>>;
 
 impl<M: Modulus> Coefficient<M> {
-    // The coefficient of that number, which is refused with 1 where it is not below the modulus.
-    pub fn new(number: u16) -> Result<Self, Fault>
-        ensures { Built (residues M.Modulus.q M.Modulus.root (λ x. x.kept)) (residue_layout M.Modulus.q) (just number) result }
+    fn keeping(kept: u16) -> Self
+        ensures { result.kept ≡ kept }
     {
-        if number < M::modulus() {
-            Ok(Coefficient {
-                kept: number,
-                modulus: M::marker(),
-            })
-        } else {
-            Err(Fault::of_call(Refusal::CoefficientOutOfRange))
+        Coefficient {
+            kept,
+            modulus: PhantomData,
         }
     }
 
-    // The coefficient as a number below the modulus.
+    fn reduced(number: u32) -> Self
+        ensures { result.kept ≡ number % M.Q }
+    {
+        Coefficient::keeping((number % M::modulus() as u32) as u16)
+    }
+
+    // The coefficient of that number, which is refused with 1 where it is not below the modulus. As `try_from` it would
+    // not say that the number is kept as it is.
+    pub fn new(number: u16) -> Result<Self, Fault>
+        ensures { Built (coefficient_field M.Q M.ROOT) (residue_layout M.Q) (just number) result }
+    {
+        Self::from_coefficients(&[number])
+    }
+
+    // The coefficient as a number below the modulus; the name says more than `u16::from` would.
     pub fn number(self) -> u16
-        ensures { result ≡ self.kept % M.Modulus.q }
+        ensures { result ≡ self.kept % M.Q }
     {
         self.kept % M::modulus()
     }
 }
 
-impl<M: Modulus> Field for Coefficient<M> {
-    ghost arithmetic = { residues M.Modulus.q M.Modulus.root (λ x. x.kept) };
+// By remainder: a derived one would tell two kept numbers of one meaning apart.
+impl<M: Modulus> PartialEq for Coefficient<M> {
+    ghost eq = { on (λ x. x.kept % M.Q) nat_eq };
 
-    ghost laws = { let m = M.Modulus in residue_laws m.q m.bits m.root M.Modulus.prime (λ x. x.kept) (λ n. (record { kept = n; modulus = m.mark }, refl)) };
+    ghost laws = { Prim.search (comparing, rules) };
+
+    fn eq(&self, other: &Self) -> bool {
+        self.number() == other.number()
+    }
+}
+
+#[tactic(auto, using(crate::proofs::Reductions::reducing))]
+impl<M: Modulus> Field for Coefficient<M> {
+    ghost arithmetic = { coefficient_field M.Q M.ROOT };
+
+    ghost laws = { coefficient_laws M.prime };
+
+    ghost equal_by_meaning = { residues_equal_by_meaning M.Q M.ROOT (λ x. x.kept) };
 
     fn zero() -> Self {
-        Coefficient {
-            kept: 0,
-            modulus: M::marker(),
-        }
+        Coefficient::keeping(0)
     }
 
     fn one() -> Self {
-        Coefficient {
-            kept: 1,
-            modulus: M::marker(),
-        }
+        Coefficient::keeping(1)
     }
 
     fn add(self, other: Self) -> Self {
-        let sum = (self.kept as u32 + other.kept as u32) % M::modulus() as u32;
-        Coefficient {
-            kept: sum as u16,
-            modulus: M::marker(),
-        }
+        Coefficient::reduced(self.kept as u32 + other.kept as u32)
     }
 
     fn neg(self) -> Self {
         let q = M::modulus();
-        Coefficient {
-            kept: (q - self.kept % q) % q,
-            modulus: M::marker(),
-        }
+        Coefficient::keeping((q - self.kept % q) % q)
     }
 
     fn mul(self, other: Self) -> Self {
-        let product = (self.kept as u32 * other.kept as u32) % M::modulus() as u32;
-        Coefficient {
-            kept: product as u16,
-            modulus: M::marker(),
-        }
+        Coefficient::reduced(self.kept as u32 * other.kept as u32)
     }
 
     fn square(self) -> Self {
@@ -94,44 +105,27 @@ impl<M: Modulus> Field for Coefficient<M> {
         if self.number() == 0 {
             Err(Fault::of_call(Refusal::ZeroHasNoInverse))
         } else {
-            Ok(Coefficient {
-                kept: M::inverse_entry(self.kept),
-                modulus: M::marker(),
-            })
+            Ok(Coefficient::keeping(M::inverse_entry(self.kept)))
         }
     }
 
     fn non_residue() -> Self {
-        Coefficient {
-            kept: 2,
-            modulus: M::marker(),
-        }
+        Coefficient::keeping(2)
     }
 
     fn mul_by_non_residue(self) -> Self {
-        let double = (2 * self.kept as u32) % M::modulus() as u32;
-        Coefficient {
-            kept: double as u16,
-            modulus: M::marker(),
-        }
+        Coefficient::reduced(2 * self.kept as u32)
     }
 
     fn sqrt_minus_one() -> Self {
-        Coefficient {
-            kept: M::sqrt_minus_one(),
-            modulus: M::marker(),
-        }
-    }
-
-    fn same(self, other: Self) -> bool {
-        self.number() == other.number()
+        Coefficient::keeping(M::sqrt_minus_one())
     }
 }
 
 impl<M: Modulus> Coordinates for Coefficient<M> {
-    ghost layout = { residue_layout M.Modulus.q };
+    ghost layout = { residue_layout M.Q };
 
-    ghost coordinates = { let m = M.Modulus in residue_coordinate_laws m.q m.bits m.root M.Modulus.prime (λ x. x.kept) (λ n. (record { kept = n; modulus = m.mark }, refl)) };
+    ghost coordinates = { coefficient_coordinates M.prime };
 
     fn modulus() -> u16 {
         M::modulus()
@@ -146,14 +140,9 @@ impl<M: Modulus> Coordinates for Coefficient<M> {
     }
 
     fn with_coefficient(self, power: usize, coefficient: u16) -> Result<Self, Fault> {
-        if coefficient >= M::modulus() {
-            return Err(Fault::new(Refusal::CoefficientOutOfRange, Part::Call, power));
-        }
+        Self::check_range(power, coefficient)?;
         if power == 0 {
-            Ok(Coefficient {
-                kept: coefficient,
-                modulus: M::marker(),
-            })
+            Ok(Coefficient::keeping(coefficient))
         } else {
             Ok(self)
         }

@@ -1,5 +1,5 @@
 -- The meanings that blocks stand for, in the field of meanings.
-use Rattle.std.proofs.Common.{◌≡◌, ℕ, ◌≤◌, List, length, sym, refl, ap, ◌∙◌, arith}
+use Rattle.std.proofs.Common.{◌≡◌, ℕ, ◌<◌, ◌≤◌, List, length, sym, refl, ap, ◌∙◌, arith}
 use mathlib.Core.Path.{fst_path}
 use Rattle.field.specs.Fields.{Arithmetic, Laws}
 use Rattle.field.specs.Coordinates.{Layout, CoordinateLaws}
@@ -11,6 +11,9 @@ use Rattle.tag.specs.Tags.{block_value}
 -- a block has two bytes or more
 pub block_size_from_two : {l : Layout} {w : ℕ} → Limits l w → 2 ≤ block_size_of w l.count
 block_size_from_two limits = omega (arith, limits.room_for_length)
+
+pub block_size_positive : {l : Layout} {w : ℕ} → Limits l w → 0 < block_size_of w l.count
+block_size_positive limits = omega (arith, limits.room_for_length)
 
 module _ {V : Type 0} {a : Arithmetic V} {l : Layout} {w : ℕ} (laws : Laws a) (coordinates : CoordinateLaws a l) (limits : Limits l w) where
   abbrev pub block_meaning : List ℕ → Meaning laws

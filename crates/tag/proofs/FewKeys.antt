@@ -19,7 +19,7 @@ use Rattle.field.proofs.Polynomials.{PairwiseDifferent, horner, AllZero, differe
 use Rattle.coding.specs.Encoding.{Limits, block_size_of}
 use Rattle.coding.proofs.RoundTrips.{each_below}
 use Rattle.tag.specs.Tags.{Body, block_count, blocks, length_block, absorbed, tag_of}
-use Rattle.tag.specs.KeyBound.{Every, Different, Fits, FewKeysFitTwoBodies}
+use Rattle.tag.specs.KeyBound.{Different, Fits, FewKeysFitTwoBodies}
 use Rattle.tag.proofs.BlockMeanings.{block_size_from_two, block_meaning, block_meanings_apart}
 use Rattle.tag.proofs.Apart.{length_blocks, bodies_apart, lengths_apart}
 
@@ -44,7 +44,7 @@ module _ {A : Type 0} (o : Operations A) (f : IsField o) where
       ∙ ring o r (k ∷ pad ∷ horner o cs k ∷ horner o ds k ∷ []) (search quotes depth 9) refl
 
 -- a property of every value, carried over to the values' images
-every_mapped : {V W : Type 0} (P : V → Type 0) (Q : W → Type 0) (g : V → W) → ((x : V) → P x → Q (g x)) → (xs : List V) → Every P xs → AllByRecursion Q (map g xs)
+every_mapped : {V W : Type 0} (P : V → Type 0) (Q : W → Type 0) (g : V → W) → ((x : V) → P x → Q (g x)) → (xs : List V) → AllByRecursion P xs → AllByRecursion Q (map g xs)
 every_mapped P Q g h [] e = tt
 every_mapped P Q g h (x ∷ xs) e = (h x e.0, every_mapped P Q g h xs e.1)
 

@@ -2,8 +2,6 @@ pub mod BlockMeanings
 pub mod WeighedSum
 pub mod Apart
 pub mod FewKeys
-pub mod Lengths
-pub mod Steps
 pub mod Groups
 pub mod Reading
-pub mod Keys
+pub mod Chunks

@@ -1,138 +1,78 @@
--- Reading pads and tags: what decoding gives, as a meaning, and when two meanings are the same.
-use Rattle.std.proofs.Common.{◌≡◌, ℕ, suc, ◌+◌, ◌-◌, ◌*◌, ◌/◌, ◌<◌, ◌≤◌, Bool, true, false, cond, ◌&&◌, eqb, leb, ◌≢◌, List, [], ◌∷◌, length, take, drop, Ok, Err, Result, sym, refl, ap, ◌∙◌, ap₂, mul-le-mul_right, suc-mul, mul_comm, mul-le-mul_left, arith, eq-eqb, eqb-true, le-leb}
+-- Reading tickets: when two meanings are the same, and what a ticket answers as it is read.
+use Rattle.std.proofs.Common.{◌≡◌, ℕ, ◌+◌, ◌-◌, ◌≤◌, Bool, true, false, cond, leb, ◌≢◌, List, length, take, drop, Ok, Err, Result, sym, refl, ap, ◌∙◌, arith, leb-true, leb-false, length-take}
 use mathlib.Core.Path.{Path}
-use Rattle.std.proofs.lemmas.List.{take_rest}
+use Rattle.std.specs.Cmp.Lexicographic.{bytes_decides}
 use Rattle.fault.specs.declared.Fault.{Fault}
-use Rattle.fault.specs.declared.Part.{Part}
 use Rattle.fault.specs.declared.Part.TheVariants.{Call, Tag}
 use Rattle.fault.specs.Faults.{fault}
 use Rattle.field.specs.Fields.{Arithmetic}
-use Rattle.field.specs.Coordinates.{Layout, CoordinateLaws}
-use Rattle.coding.specs.Encoding.{Limits, encoded_size_of, decoded, Decoded}
+use Rattle.field.specs.Coordinates.{Layout}
+use Rattle.coding.specs.Encoding.{encoded_size_of, decoded}
 use Rattle.tag.specs.Bodies.{Opened, parts, opened, if_length}
 use Rattle.tag.specs.Tags.{tag_of}
-use Rattle.tag.specs.Tickets.{Answers, then, pads_answer, same_numbers, tag_answer, pad_answer, ticket_body, ticket_tag, ticket_answer}
-use Rattle.tag.proofs.Lengths.{both_given}
-
-pub encoded_size_positive : {l : Layout} {w : ℕ} → Limits l w → 0 < encoded_size_of w l.count
-encoded_size_positive {l} {w} limits =
-    let room = limits.room_for_length in
-    let less : l.count * (w - 1) ≤ l.count * w = mul-le-mul_left l.count (omega arith) in
-    omega arith
-
--- pads that are counted are whole
-module _ (T n N : ℕ) where
-  pub pads_whole : pads_answer T n ≡ Ok N → (n / T ≡ N) × (N * T ≡ n)
-  pads_whole h = go (eqb (n / T * T) n) (leb 1 (n / T)) (leb (n / T) 1024) (λ e. eqb-true _ _ e) h
-    where
-      go : (b d e : Bool) → (b ≡ true → n / T * T ≡ n) → Path (Result ℕ Fault) (cond b (cond d (cond e (Ok (n / T)) (Err (fault 6 Call 0))) (Err (fault 6 Call 0))) (Err (fault 6 Call 0))) (Ok N) → (n / T ≡ N) × (N * T ≡ n)
-      go true true true w s = let same : n / T ≡ N = cc in (same, ap (λ k. k * T) (sym same) ∙ w refl)
-      go true true false w s = absurd (let z : ◌≡◌ {A = ℕ} 0 1 = cc in omega arith)
-      go true false e w s = absurd (let z : ◌≡◌ {A = ℕ} 0 1 = cc in omega arith)
-      go false d e w s = absurd (let z : ◌≡◌ {A = ℕ} 0 1 = cc in omega arith)
-
-module _ {V : Type 0} (a : Arithmetic V) (l : Layout) (w : ℕ) (k : CoordinateLaws a l) where
-  -- the meaning of a decoded value
-  pub decoded_meaning : (part : Part) (bytes : List ℕ) (r : Result V Fault) → Decoded a l w part bytes r → Answers a.meaning (then (decoded l w part bytes) (λ xs. Ok (l.from_power xs))) r
-  decoded_meaning part bytes (Ok v) h = ap (λ s. then s (λ xs. Ok (l.from_power xs))) h ∙ ap Ok (k.told_back v)
-  decoded_meaning part bytes (Err f) h = ap (λ s. then s (λ xs. Ok (l.from_power xs))) h
+use Rattle.tag.specs.Tickets.{then, same_numbers, tag_answer, pad_answer, ticket_body, ticket_tag, ticket_answer}
 
 pub same_numbers_same : (xs ys : List ℕ) → xs ≡ ys → same_numbers xs ys ≡ true
-same_numbers_same xs ys e = ap (same_numbers xs) (sym e) ∙ own xs
-  where
-    own : (zs : List ℕ) → same_numbers zs zs ≡ true
-    own [] = refl
-    own (z ∷ zs) = ap₂ ◌&&◌ (eq-eqb z z refl) (own zs)
-
-same_numbers_only : (xs ys : List ℕ) → same_numbers xs ys ≡ true → xs ≡ ys
-same_numbers_only [] [] h = refl
-same_numbers_only [] (y ∷ ys) h = absurd (let z : ◌≡◌ {A = ℕ} 0 1 = cc in omega arith)
-same_numbers_only (x ∷ xs) [] h = absurd (let z : ◌≡◌ {A = ℕ} 0 1 = cc in omega arith)
-same_numbers_only (x ∷ xs) (y ∷ ys) h = go (eqb x y) (same_numbers xs ys) refl refl h (same_numbers_only xs ys)
-  where
-    go : (b d : Bool) → eqb x y ≡ b → same_numbers xs ys ≡ d → (b && d) ≡ true → (same_numbers xs ys ≡ true → xs ≡ ys) → x ∷ xs ≡ y ∷ ys
-    go true true p s t next = ap₂ ◌∷◌ (eqb-true x y p) (next s)
-    go true false p s t next = absurd (let z : ◌≡◌ {A = ℕ} 0 1 = cc in omega arith)
-    go false d p s t next = absurd (let z : ◌≡◌ {A = ℕ} 0 1 = cc in omega arith)
+same_numbers_same xs ys = (bytes_decides xs ys).1
 
 pub same_numbers_other : (xs ys : List ℕ) → xs ≢ ys → same_numbers xs ys ≡ false
 same_numbers_other xs ys n = go (same_numbers xs ys) refl
   where
     go : (b : Bool) → same_numbers xs ys ≡ b → b ≡ false
-    go true e = absurd (n (same_numbers_only xs ys e))
+    go true e = absurd (n ((bytes_decides xs ys).0 e))
     go false e = refl
 
--- what was given where the length was right
-given_right : {A : Type 0} (bytes : List ℕ) (x z : A) → ◌≡◌ {A = Result A Fault} (if_length bytes x) (Ok z) → x ≡ z
-given_right bytes x z h = (both_given x x (fault 5 Call 0) (leb 2 (length bytes)) (leb (length bytes) 440) z h).0
+-- what is given where the length is right
+pub given_right : {A : Type 0} (bytes : List ℕ) (x z : A) → ◌≡◌ {A = Result A Fault} (if_length bytes x) (Ok z) → x ≡ z
+given_right bytes x z = go (leb 2 (length bytes)) (leb (length bytes) 440)
+  where
+    go : (b d : Bool) → Path (Result _ Fault) (cond b (cond d (Ok x) (Err (fault 5 Call 0))) (Err (fault 5 Call 0))) (Ok z) → x ≡ z
+    go true true h = cc
+    go true false h = cc
+    go false d h = cc
 
--- The answer for a ticket of the right length, with its body and tag as the code cuts them.
-module _ {V : Type 0} (a : Arithmetic V) (l : Layout) (w : ℕ) (key pads ticket : List ℕ) (size : ℕ) (same : size ≡ encoded_size_of w l.count) (long : size + 2 ≤ length ticket) (short : length ticket ≤ size + 440)
-    (o : Opened) (was_opened : opened (take ((length ticket - size) - 0) ticket) ≡ Ok o) where
-  abbrev T : ℕ
-  T = encoded_size_of w l.count
+same_tests : (m n p q : ℕ) → (m ≤ n → p ≤ q) → (p ≤ q → m ≤ n) → leb m n ≡ leb p q
+same_tests m n p q f h = go (leb m n) (leb p q) refl refl
+  where
+    go : (b d : Bool) → leb m n ≡ b → leb p q ≡ d → b ≡ d
+    go true true x y = refl
+    go true false x y = absurd (let k = f (leb-true _ _ x) in let z = leb-false _ _ y in omega arith)
+    go false true x y = absurd (let k = h (leb-true _ _ y) in let z = leb-false _ _ x in omega arith)
+    go false false x y = refl
 
-  abbrev bytes : List ℕ
-  bytes = take ((length ticket - size) - 0) ticket
+module _ {V : Type 0} (a : Arithmetic V) (l : Layout) (w : ℕ) (key pads ticket : List ℕ) where
+  -- what a ticket answers as it is read: its body is opened, its pad read and its tag decoded, and the tag compared
+  pub ticket_in_turn : ticket_answer a l w key pads ticket
+      ≡ then (opened (ticket_body a l w ticket)) (λ o.
+      then (pad_answer a l w pads o.number) (λ pad.
+      then (decoded l w Tag (ticket_tag a l w ticket)) (λ xs.
+      cond (same_numbers (tag_of a l w key pad (ticket_body a l w ticket)) (l.from_power xs)) (Ok o) (Err (fault 11 Call 0)))))
+  ticket_in_turn =
+      let T = encoded_size_of w l.count in
+      let n = length ticket in
+      let body = ticket_body a l w ticket in
+      let size : length body ≡ n - T = length-take (n - T) ticket ∙ omega arith in
+      let long : leb (T + 2) n ≡ leb 2 (length body) = same_tests (T + 2) n 2 (length body) (λ h. omega arith) (λ h. omega arith) in
+      let short : leb n (T + 440) ≡ leb (length body) 440 = same_tests n (T + 440) (length body) 440 (λ h. omega arith) (λ h. omega arith) in
+      rw (long, short) (go (leb 2 (length body)) (leb (length body) 440))
+    where
+      read : Opened → Result Opened Fault
+      read o =
+          then (pad_answer a l w pads o.number) (λ pad.
+          then (decoded l w Tag (ticket_tag a l w ticket)) (λ xs.
+          cond (same_numbers (tag_of a l w key pad (ticket_body a l w ticket)) (l.from_power xs)) (Ok o) (Err (fault 11 Call 0))))
 
-  abbrev tail : List ℕ
-  tail = take (length ticket - (length ticket - size)) (drop (length ticket - size) ticket)
+      go : (b d : Bool) → cond b (cond d (read (parts (ticket_body a l w ticket))) (Err (fault 5 Call 0))) (Err (fault 5 Call 0)) ≡ then (cond b (cond d (Ok (parts (ticket_body a l w ticket))) (Err (fault 5 Call 0))) (Err (fault 5 Call 0))) read
+      go true true = refl
+      go true false = refl
+      go false d = refl
 
-  test_long : leb (T + 2) (length ticket) ≡ true
-  test_long = le-leb _ _ (omega arith)
-
-  test_short : leb (length ticket) (T + 440) ≡ true
-  test_short = le-leb _ _ (omega arith)
-
-  body_is : bytes ≡ ticket_body a l w ticket
-  body_is = let e : (length ticket - size) - 0 ≡ length ticket - T = omega arith in rw e
-
-  tag_is : tail ≡ ticket_tag a l w ticket
-  tag_is = take_rest ticket (length ticket - size) ∙ ap (λ k. drop (length ticket - k) ticket) same
-
-  parts_are : parts (ticket_body a l w ticket) ≡ o
-  parts_are = ap parts (sym body_is) ∙ given_right bytes (parts bytes) o was_opened
-
-  -- what is answered of the parts, of a ticket of the right length, and with a pad, of its tag
-  abbrev of_tag : List ℕ → List ℕ → Result Opened Fault
-  of_tag pad xs = cond (same_numbers (tag_of a l w key pad (ticket_body a l w ticket)) (l.from_power xs)) (Ok (parts (ticket_body a l w ticket))) (Err (fault 11 Call 0))
-
-  abbrev of_pad : List ℕ → Result Opened Fault
-  of_pad pad = then (decoded l w Tag (ticket_tag a l w ticket)) (of_tag pad)
-
-  of_length : ticket_answer a l w key pads ticket ≡ then (pad_answer a l w pads (parts (ticket_body a l w ticket)).number) of_pad
-  of_length = ap (λ b. cond b (cond (leb (length ticket) (T + 440)) (then (pad_answer a l w pads (parts (ticket_body a l w ticket)).number) of_pad) (Err (fault 5 Call 0))) (Err (fault 5 Call 0))) test_long
-      ∙ ap (λ b. cond b (then (pad_answer a l w pads (parts (ticket_body a l w ticket)).number) of_pad) (Err (fault 5 Call 0))) test_short
-
-  with_pad : (r : Result (List ℕ) Fault) → pad_answer a l w pads o.number ≡ r → ticket_answer a l w key pads ticket ≡ then r of_pad
-  with_pad r h = of_length ∙ ap (λ (q : Opened). then (pad_answer a l w pads q.number) of_pad) parts_are ∙ ap (λ s. then s of_pad) h
-
-  pub pad_refused : (f : Fault) → pad_answer a l w pads o.number ≡ Err f → ticket_answer a l w key pads ticket ≡ Err f
-  pad_refused f h = with_pad (Err f) h
-
-  module _ (pad : List ℕ) (read : pad_answer a l w pads o.number ≡ Ok pad) where
-    with_tag : (r : Result (List ℕ) Fault) → decoded l w Tag tail ≡ r → ticket_answer a l w key pads ticket ≡ then r (of_tag pad)
-    with_tag r h = with_pad (Ok pad) read ∙ ap (λ s. then s (of_tag pad)) (ap (decoded l w Tag) (sym tag_is) ∙ h)
-
-    pub tag_refused : (f : Fault) → decoded l w Tag (take (length ticket - (length ticket - size)) (drop (length ticket - size) ticket)) ≡ Err f → ticket_answer a l w key pads ticket ≡ Err f
-    tag_refused f h = with_tag (Err f) h
-
-    module _ (xs made : List ℕ) (claimed : decoded l w Tag (take (length ticket - (length ticket - size)) (drop (length ticket - size) ticket)) ≡ Ok xs) (tagged : tag_answer a l w key pad (take ((length ticket - size) - 0) ticket) ≡ Ok made) where
-      made_is : tag_of a l w key pad (ticket_body a l w ticket) ≡ made
-      made_is = ap (tag_of a l w key pad) (sym body_is) ∙ given_right bytes (tag_of a l w key pad bytes) made tagged
-
-      by_test : (b : Bool) → same_numbers (tag_of a l w key pad (ticket_body a l w ticket)) (l.from_power xs) ≡ b → ticket_answer a l w key pads ticket ≡ cond b (Ok (parts (ticket_body a l w ticket))) (Err (fault 11 Call 0))
-      by_test b h = with_tag (Ok xs) claimed ∙ ap (λ t. cond t (Ok (parts (ticket_body a l w ticket))) (Err (fault 11 Call 0))) h
-
-      pub tag_right : made ≡ l.from_power xs → ticket_answer a l w key pads ticket ≡ Ok o
-      tag_right e = by_test true (same_numbers_same _ _ (made_is ∙ e)) ∙ ap Ok parts_are
-
-      pub tag_false : made ≢ l.from_power xs → ticket_answer a l w key pads ticket ≡ Err (fault 11 Call 0)
-      tag_false n = by_test false (same_numbers_other _ _ (λ e. n (sym made_is ∙ e)))
-
--- a pad that is counted ends within the pads
-pub pad_within : (T n N number : ℕ) → pads_answer T n ≡ Ok N → number < N → T * number + T ≤ n
-pad_within T n N number h l =
-    let whole = pads_whole T n N h in
-    let more : suc number * T ≤ N * T = mul-le-mul_right T l in
-    omega (arith, whole.1, suc-mul number T, mul_comm T number)
+  -- what a ticket answers that was read as far as to its tag, which is cut off at a place
+  pub ticket_compared : (end : ℕ) (body tag : List ℕ) (o : Opened) (pad xs made : List ℕ)
+      → end ≡ length ticket - encoded_size_of w l.count → body ≡ take end ticket → tag ≡ drop end ticket
+      → opened body ≡ Ok o → pad_answer a l w pads o.number ≡ Ok pad → decoded l w Tag tag ≡ Ok xs → tag_answer a l w key pad body ≡ Ok made
+      → ticket_answer a l w key pads ticket ≡ cond (same_numbers made (l.from_power xs)) (Ok o) (Err (fault 11 Call 0))
+  ticket_compared end body tag o pad xs made place cut rest was_opened was_read was_decoded was_made =
+      let front : ticket_body a l w ticket ≡ body = sym (cut ∙ ap (λ k. take k ticket) place) in
+      let back : ticket_tag a l w ticket ≡ tag = sym (rest ∙ ap (λ k. drop k ticket) place) in
+      rw (ticket_in_turn, front, back, was_opened, was_read, was_decoded, given_right body (tag_of a l w key pad body) made was_made)

@@ -3,6 +3,7 @@ use Rattle.std.specs.Prelude.{ℕ, ◌+◌, ◌*◌, ◌/◌, ◌%◌, cond, Lis
 use Rattle.fault.specs.declared.Fault.{Fault}
 use Rattle.fault.specs.declared.Part.TheVariants.{Call}
 use Rattle.fault.specs.Faults.{fault}
+use Rattle.tag.specs.declared.bodies.Body.{Body}
 
 -- a ticket's number in 10 bits and its route in 6, and then its text
 abbrev pub body_bytes : ℕ → ℕ → List ℕ → List ℕ
@@ -43,6 +44,10 @@ pub record Opened : Type 0 where
   pub number : ℕ
   pub route : ℕ
   pub text : List ℕ
+
+-- the same of a body that was taken apart, wherever its text lies
+abbrev pub parts_of : Body → Opened
+parts_of b = record { number = b.number; route = b.route; text = b.text.now }
 
 abbrev pub parts : List ℕ → Opened
 parts bytes = record { number = head_number bytes / 64; route = head_number bytes % 64; text = drop 2 bytes }

@@ -38,17 +38,14 @@ module _ {V : Type 0} (a : Arithmetic V) (l : Layout) (w : ℕ) where
   abbrev pub absorbed : List ℕ → List ℕ → List ℕ → List ℕ
   absorbed key sum bytes = a.times (a.plus sum (block_value bytes)) key
 
-  -- the first blocks of a body taken in, `count` of them
-  abbrev pub blocks_absorbed : List ℕ → ℕ → List ℕ → ℕ → List ℕ
-  blocks_absorbed key B body count = fold (absorbed key) a.zero (map (λ k. block B k body) (range_with_len 0 count))
-
-  abbrev pub four_absorbed : List ℕ → List ℕ → List ℕ → List ℕ → List ℕ → List ℕ → List ℕ
-  four_absorbed key sum b0 b1 b2 b3 = absorbed key (absorbed key (absorbed key (absorbed key sum b0) b1) b2) b3
+  -- the blocks of some bytes taken in after a sum, one after the other
+  abbrev pub all_absorbed : List ℕ → List ℕ → List ℕ → List ℕ
+  all_absorbed key sum bytes = fold (absorbed key) sum (blocks (block_size_of w l.count) bytes)
 
   -- The tag starts at zero and takes in each block and then the length block; then the pad is added.
   abbrev pub tag_of : List ℕ → List ℕ → List ℕ → List ℕ
   tag_of key pad body =
-      a.plus (absorbed key (fold (absorbed key) a.zero (blocks (block_size_of w l.count) body)) (length_block body)) pad
+      a.plus (absorbed key (all_absorbed key a.zero body) (length_block body)) pad
 
   -- powers, and a sum of blocks in which each is weighed by the power of the key that counts it and those after it
   abbrev pub power : List ℕ → ℕ → List ℕ

@@ -1,5 +1,6 @@
 -- Tags as they are asked for: what making one, reading a key or a pad and checking a ticket answer.
-use Rattle.std.specs.Prelude.{◌≡◌, ℕ, ◌+◌, ◌-◌, ◌*◌, ◌/◌, Bool, true, false, cond, ◌&&◌, List, [], ◌∷◌, length, take, drop, Ok, Err, Result, ◌==◌, nat_le, nat_lt}
+use Rattle.std.specs.Prelude.{◌≡◌, ℕ, ◌+◌, ◌-◌, ◌*◌, ◌/◌, Bool, cond, List, length, take, drop, Ok, Err, Result, ◌==◌, nat_eq, nat_le, nat_lt}
+use Rattle.std.specs.Cmp.Lexicographic.{pointwise}
 use Rattle.fault.specs.declared.Fault.{Fault}
 use Rattle.fault.specs.declared.Part.TheVariants.{Call, Key, Pad, Tag}
 use Rattle.fault.specs.Faults.{fault}
@@ -10,7 +11,7 @@ use Rattle.tag.specs.Bodies.{Opened, parts, if_length}
 use Rattle.tag.specs.Tags.{tag_of, block_count}
 
 -- the answer has the meaning, or the refusal, that is due
-abbrev pub Answers : {V : Type 0} → (V → List ℕ) → Result (List ℕ) Fault → Result V Fault → Type 0
+abbrev pub Answers : {V M : Type 0} → (V → M) → Result M Fault → Result V Fault → Type 0
 Answers meaning due (Ok v) = due ≡ Ok (meaning v)
 Answers meaning due (Err f) = due ≡ Err f
 
@@ -24,11 +25,9 @@ abbrev pub pads_answer : ℕ → ℕ → Result ℕ Fault
 pads_answer T n =
     cond (n / T * T == n) (cond (nat_le 1 (n / T)) (cond (nat_le (n / T) 1024) (Ok (n / T)) (Err (fault 6 Call 0))) (Err (fault 6 Call 0))) (Err (fault 6 Call 0))
 
+-- whether two lists of numbers are the same
 abbrev pub same_numbers : List ℕ → List ℕ → Bool
-same_numbers [] [] = true
-same_numbers [] (y ∷ ys) = false
-same_numbers (x ∷ xs) [] = false
-same_numbers (x ∷ xs) (y ∷ ys) = x == y && same_numbers xs ys
+same_numbers = pointwise nat_eq
 
 module _ {V : Type 0} (a : Arithmetic V) (l : Layout) (w : ℕ) where
   -- the count of blocks of a body of n bytes

@@ -1,20 +1,21 @@
 //! Tickets: a body and its encoded tag, and the pads that tags are made with.
-ghost use Rattle.std.specs.Prelude.{◌≡◌, ◌<◌, length, Ok, Err, MatchResult};
+ghost use Rattle.std.specs.Prelude.{◌≡◌, length};
 ghost use Rattle.coding.specs.Encoding.{encoded_size_of};
+ghost use Rattle.tag.specs.Bodies.{parts_of};
 ghost use Rattle.tag.specs.Tickets.{Answers, pads_answer, key_answer, pad_answer, ticket_answer};
 
-use super::bodies::{Body, LONGEST_BODY, open_body};
+use super::bodies::Body;
 use super::tags::make_tag;
 use coding::{CodedField, decode, encoded_size};
 use fault::{Fault, Part, Refusal};
 
 // How many pads there are; other than 1 to 1024 whole ones are refused with 6.
 pub fn count_pads<F: CodedField>(pads: &[u8]) -> Result<usize, Fault>
-    ensures { result ≡ pads_answer (encoded_size_of F.CodedField.bits F.Coordinates.layout.count) (length pads.now) }
+    ensures { result ≡ pads_answer (encoded_size_of F.bits F.layout.count) (length pads.now) }
 {
     let size = encoded_size::<F>();
     let count = pads.len() / size;
-    if count * size != pads.len() || count < 1 || count > 1024 {
+    if count * size != pads.len() || !(1..=1024).contains(&count) {
         return Err(Fault::of_call(Refusal::BadPads));
     }
     Ok(count)
@@ -22,10 +23,10 @@ pub fn count_pads<F: CodedField>(pads: &[u8]) -> Result<usize, Fault>
 
 // The key that bytes encode: refused as decoding them is, then with 7 where it is zero.
 pub fn read_key<F: CodedField>(bytes: &[u8]) -> Result<F, Fault>
-    ensures { Answers F.Field.arithmetic.meaning (key_answer F.Field.arithmetic F.Coordinates.layout F.CodedField.bits bytes.now) result }
+    ensures { Answers F.arithmetic.meaning (key_answer F.arithmetic F.layout F.bits bytes.now) result }
 {
     let key: F = decode(Part::Key, bytes)?;
-    if key.same(F::zero()) {
+    if key == F::zero() {
         return Err(Fault::new(Refusal::ZeroKey, Part::Key, 0));
     }
     Ok(key)
@@ -33,12 +34,13 @@ pub fn read_key<F: CodedField>(bytes: &[u8]) -> Result<F, Fault>
 
 // The pad of a ticket number: refused as the pads are, then with 8 where there is none, then as decoding it is.
 pub fn read_pad<F: CodedField>(pads: &[u8], number: usize) -> Result<F, Fault>
-    ensures { Answers F.Field.arithmetic.meaning (pad_answer F.Field.arithmetic F.Coordinates.layout F.CodedField.bits pads.now number) result }
+    ensures { Answers F.arithmetic.meaning (pad_answer F.arithmetic F.layout F.bits pads.now number) result }
 {
     let count = count_pads::<F>(pads)?;
     if number >= count {
         return Err(Fault::of_call(Refusal::NumberOutOfRange));
     }
+    // a range: `nth` of the chunks would step over each pad before
     let size = encoded_size::<F>();
     let from = size * number;
     decode(Part::Pad, &pads[from..from + size])
@@ -51,19 +53,18 @@ pub fn check_ticket<'a, F: CodedField>(
     pads: &[u8],
     ticket: &'a [u8],
 ) -> Result<Body<'a>, Fault>
-    ensures { MatchResult result (λ b. ticket_answer F.Field.arithmetic F.Coordinates.layout F.CodedField.bits (F.Field.arithmetic.meaning key) pads.now ticket.now ≡ Ok (record { number = b.number; route = b.route; text = b.text.now })) (λ f. ticket_answer F.Field.arithmetic F.Coordinates.layout F.CodedField.bits (F.Field.arithmetic.meaning key) pads.now ticket.now ≡ Err f) }
+    ensures { Answers parts_of
+        (ticket_answer F.arithmetic F.layout F.bits (F.arithmetic.meaning key) pads.now ticket.now) result }
 {
-    let size = encoded_size::<F>();
-    if ticket.len() < size + 2 || ticket.len() > size + LONGEST_BODY {
+    let Some(end) = ticket.len().checked_sub(encoded_size::<F>()) else {
         return Err(Fault::of_call(Refusal::WrongLength));
-    }
-    let end = ticket.len() - size;
-    let bytes = &ticket[0..end];
-    let body = open_body(bytes)?;
+    };
+    let (bytes, tag) = ticket.split_at(end);
+    let body = Body::open(bytes)?;
     let pad = read_pad(pads, body.number as usize)?;
-    let claimed: F = decode(Part::Tag, &ticket[end..ticket.len()])?;
+    let claimed: F = decode(Part::Tag, tag)?;
     let right = make_tag(key, pad, bytes)?;
-    if right.same(claimed) {
+    if right == claimed {
         Ok(body)
     } else {
         Err(Fault::of_call(Refusal::FalseTag))

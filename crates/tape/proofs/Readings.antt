@@ -17,7 +17,7 @@ all_bytes_more : (rs : List Request) (r : Request) → all_bytes (rs ++ r ∷ []
 all_bytes_more [] r = append-nil (record_bytes r)
 all_bytes_more (s ∷ rs) r = ap (λ xs. record_bytes s ++ xs) (all_bytes_more rs r) ∙ sym (append_assoc (record_bytes s) (all_bytes rs) (record_bytes r))
 
-two_at_least : (r : Request) → 2 ≤ length (record_bytes r)
+pub two_at_least : (r : Request) → 2 ≤ length (record_bytes r)
 two_at_least (check ticket) = omega arith
 two_at_least (cancel n) = omega arith
 two_at_least (report n) = omega arith
@@ -43,13 +43,13 @@ no_kind_is_nothing tape at k n = go (eqb k 1) (eqb k 2) (eqb k 3) (ltb (length t
         (cond c (cond g (Ok (Some (report n))) (Err (fault 16 Tape at))) (Err (fault 16 Tape at)))))
         (Ok None)
         → ⊥
-    go true b c true f g q = let z : ◌≡◌ {A = ℕ} 0 1 = cc in omega arith
-    go true b c false f g q = let z : ◌≡◌ {A = ℕ} 0 1 = cc in omega arith
-    go false true c d true g q = let z : ◌≡◌ {A = ℕ} 0 1 = cc in omega arith
-    go false true c d false g q = let z : ◌≡◌ {A = ℕ} 0 1 = cc in omega arith
-    go false false true d f true q = let z : ◌≡◌ {A = ℕ} 0 1 = cc in omega arith
-    go false false true d f false q = let z : ◌≡◌ {A = ℕ} 0 1 = cc in omega arith
-    go false false false d f g q = let z : ◌≡◌ {A = ℕ} 0 1 = cc in omega arith
+    go true b c true f g q = cc
+    go true b c false f g q = cc
+    go false true c d true g q = cc
+    go false true c d false g q = cc
+    go false false true d f true q = cc
+    go false false true d f false q = cc
+    go false false false d f g q = cc
 
 nothing_at_the_end : (tape : List ℕ) (at : ℕ) → next_record tape at ≡ Ok None → length tape ≤ at
 nothing_at_the_end tape at = go (leb (length tape) at) (ltb (length tape - at) 2) refl
@@ -59,7 +59,7 @@ nothing_at_the_end tape at = go (leb (length tape) at) (ltb (length tape - at) 2
         (cond a (Ok None) (cond b (Err (fault 15 Tape at)) (by_kind tape at (head tape at / 16384) (head tape at % 16384)))) (Ok None)
         → length tape ≤ at
     go true b p q = leb-true _ _ p
-    go false true p q = absurd (let z : ◌≡◌ {A = ℕ} 0 1 = cc in omega arith)
+    go false true p q = cc
     go false false p q = absurd (no_kind_is_nothing tape at (head tape at / 16384) (head tape at % 16384) q)
 
 ends : (tape : List ℕ) (at : ℕ) → next_record tape at ≡ Ok None → (rs : List Request) → Holds tape at rs → tape ≡ all_bytes rs

@@ -1,23 +1,19 @@
 -- What is read at a place is what stands there.
-use Rattle.std.proofs.Common.{◌≡◌, ℕ, zero, suc, ◌+◌, ◌-◌, ◌*◌, ◌/◌, ◌%◌, ◌<◌, ◌≤◌, Bool, true, false, cond, eqb, ltb, leb, List, [], ◌∷◌, ◌++◌, length, get_or, take, drop, Some, None, Ok, Err, Option, Result, sym, refl, ap, ◌∙◌, subst, ap₂, arith, length-append, length-drop, take-append-drop, length-take-le, get_or-drop, drop-drop, take_at}
+use Rattle.std.proofs.Common.{◌≡◌, ℕ, suc, ◌+◌, ◌-◌, ◌*◌, ◌/◌, ◌%◌, ◌<◌, ◌≤◌, Bool, true, false, cond, eqb, ltb, leb, List, ◌∷◌, ◌++◌, length, get_or, take, drop, Some, None, Ok, Err, Option, Result, sym, refl, ap, ◌∙◌, subst, ap₂, arith, length-append, length-drop, take-append-drop, length-take-le, get_or-drop, drop-drop, take_at}
 use lib.Lanes.{Each1}
 use Rattle.std.proofs.lemmas.List.{drop_more}
+use Rattle.std.proofs.lemmas.Simd.{Each1-get_or}
 use Rattle.std.proofs.lemmas.Bool.{ltb-true, ltb-false, leb-false, eqb-true, lt-leb, le-ltb, lt-ltb}
 use Rattle.fault.specs.declared.Fault.{Fault}
 use Rattle.fault.specs.declared.Part.TheVariants.{Tape}
 use Rattle.fault.specs.Faults.{fault}
 use Rattle.tape.specs.Records.{Request, check, cancel, report, head, by_kind, next_record, two_bytes, Stands, ReadsWhatStands}
 
-each_byte : (xs : List ℕ) (k : ℕ) → Each1 (λ n. n < 256) xs → get_or xs k 0 < 256
-each_byte [] k h = omega arith
-each_byte (x ∷ xs) zero h = h.0
-each_byte (x ∷ xs) (suc k) h = each_byte xs k h.1
-
 module _ (tape : List ℕ) (at : ℕ) (bytes : Each1 (λ n. n < 256) tape) where
   -- the two bytes at a place, as the head that they are
   two_stand : at + 2 ≤ length tape → drop at tape ≡ two_bytes (head tape at) ++ drop (at + 2) tape
   two_stand h =
-      let low = each_byte tape (at + 1) bytes in
+      let low = Each1-get_or (λ n. n < 256) tape (at + 1) 0 (omega arith) bytes in
       let first : get_or tape at 0 ≡ head tape at / 256 = omega arith in
       let second : get_or tape (at + 1) 0 ≡ head tape at % 256 = omega arith in
       let next : drop (at + 1 + 1) tape ≡ drop (at + 2) tape = ap (λ k. drop k tape) (omega arith) in
@@ -47,7 +43,7 @@ module _ (tape : List ℕ) (at : ℕ) (bytes : Each1 (λ n. n < 256) tape) where
           (cond c (cond g (Ok (Some (report n))) (Err (fault 16 Tape at))) (Err (fault 16 Tape at)))))
           (Ok (Some r))
           → Stands tape at r
-      go true b c true f g p1 p2 p3 p4 p5 p6 q = absurd (let z : ◌≡◌ {A = ℕ} 0 1 = cc in omega arith)
+      go true b c true f g p1 p2 p3 p4 p5 p6 q = cc
       go true b c false f g p1 p2 p3 p4 p5 p6 q =
           let one = eqb-true k 1 p1 in
           let whole = ltb-false _ _ p4 in
@@ -57,13 +53,13 @@ module _ (tape : List ℕ) (at : ℕ) (bytes : Each1 (λ n. n < 256) tape) where
           let two = eqb-true k 2 p2 in
           let same : cancel n ≡ r = cc in
           subst (Stands tape at) same (ltb-true _ _ p5, head_stands (32768 + n) h (omega arith))
-      go false true c d false g p1 p2 p3 p4 p5 p6 q = absurd (let z : ◌≡◌ {A = ℕ} 0 1 = cc in omega arith)
+      go false true c d false g p1 p2 p3 p4 p5 p6 q = cc
       go false false true d f true p1 p2 p3 p4 p5 p6 q =
           let three = eqb-true k 3 p3 in
           let same : report n ≡ r = cc in
           subst (Stands tape at) same (ltb-true _ _ p6, head_stands (49152 + n) h (omega arith))
-      go false false true d f false p1 p2 p3 p4 p5 p6 q = absurd (let z : ◌≡◌ {A = ℕ} 0 1 = cc in omega arith)
-      go false false false d f g p1 p2 p3 p4 p5 p6 q = absurd (let z : ◌≡◌ {A = ℕ} 0 1 = cc in omega arith)
+      go false false true d f false p1 p2 p3 p4 p5 p6 q = cc
+      go false false false d f g p1 p2 p3 p4 p5 p6 q = cc
 
   pub read_stands : (r : Request) → next_record tape at ≡ Ok (Some r) → Stands tape at r
   read_stands r = go (leb (length tape) at) (ltb (length tape - at) 2) refl refl
@@ -72,8 +68,8 @@ module _ (tape : List ℕ) (at : ℕ) (bytes : Each1 (λ n. n < 256) tape) where
           → ◌≡◌ {A = Result (Option Request) Fault}
           (cond a (Ok None) (cond b (Err (fault 15 Tape at)) (by_kind tape at (head tape at / 16384) (head tape at % 16384)))) (Ok (Some r))
           → Stands tape at r
-      go true b p1 p2 q = absurd (let z : ◌≡◌ {A = ℕ} 0 1 = cc in omega arith)
-      go false true p1 p2 q = absurd (let z : ◌≡◌ {A = ℕ} 0 1 = cc in omega arith)
+      go true b p1 p2 q = cc
+      go false true p1 p2 q = cc
       go false false p1 p2 q =
           let before = leb-false _ _ p1 in
           let both = ltb-false _ _ p2 in

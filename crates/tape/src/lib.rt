@@ -1,8 +1,8 @@
 //! The tape of a shift: records of checks, cancels and reports, read one after the other.
 #![tactic(auto)]
 
-ghost use Rattle.std.specs.Prelude.{◌≡◌};
-ghost use Rattle.tape.specs.Records.{answered, next_record, place_after, ReadsWhatStands, ReadingIsWhole};
+ghost use Rattle.std.specs.Prelude.{◌≡◌, length};
+ghost use Rattle.tape.specs.Records.{answered, request, record_bytes, next_record, place_after, ReadsWhatStands, ReadingIsWhole};
 
 use fault::{Fault, Part, Refusal};
 
@@ -10,14 +10,26 @@ use fault::{Fault, Part, Refusal};
 mod tests;
 
 // What a record asks for; a check has the bytes of its ticket, where they lie on the tape.
-#[derive(Clone, Copy)]
+#[derive(Clone, Copy, Debug, PartialEq, Eq)]
 pub enum Record<'a> {
     Check(&'a [u8]),
     Cancel(u16),
     Report(u8),
 }
 
-// A tape, and the place at which its next record starts.
+impl Record<'_> {
+    // How many bytes the record takes, its head among them.
+    fn size(&self) -> usize
+        ensures { result ≡ length (record_bytes (request self.now)) }
+    {
+        match self {
+            Record::Check(ticket) => 2 + ticket.len(),
+            Record::Cancel(_) | Record::Report(_) => 2,
+        }
+    }
+}
+
+// A tape, and the place at which its next record starts. It is no iterator, since a fault does not end it.
 #[derive(Drop)]
 pub struct Reader<'a> {
     tape: &'a [u8],
@@ -41,35 +53,23 @@ impl<'a> Reader<'a> {
         ensures what_stands { ReadsWhatStands self.old.tape.now self.old.at }
         ensures whole { ReadingIsWhole self.old.tape.now self.old.at }
     {
-        let tape = self.tape;
-        let at = self.at;
-        if at >= tape.len() {
+        let torn = Fault::new(Refusal::TornTape, Part::Tape, self.at);
+        let Some(left) = self.tape.get(self.at..) else {
             return Ok(None);
-        }
-        let left = tape.len() - at;
-        if left < 2 {
-            return Err(Fault::new(Refusal::TornTape, Part::Tape, at));
-        }
-        let head = tape[at] as u16 * 256 + tape[at + 1] as u16;
+        };
+        let (head, behind) = match left {
+            [] => return Ok(None),
+            [_] => return Err(torn),
+            [high, low, behind @ ..] => (u16::from_be_bytes([*high, *low]), behind),
+        };
         let number = head % 16384;
-        match head / 16384 {
-            1 => {
-                let size = number as usize;
-                if left - 2 < size {
-                    return Err(Fault::new(Refusal::TornTape, Part::Tape, at));
-                }
-                self.at = at + 2 + size;
-                Ok(Some(Record::Check(&tape[at + 2..at + 2 + size])))
-            }
-            2 if number < 1024 => {
-                self.at = at + 2;
-                Ok(Some(Record::Cancel(number)))
-            }
-            3 if number < 64 => {
-                self.at = at + 2;
-                Ok(Some(Record::Report(number as u8)))
-            }
-            _ => Err(Fault::new(Refusal::BadRecord, Part::Tape, at)),
-        }
+        let record = match head / 16384 {
+            1 => Record::Check(behind.get(..number as usize).ok_or(torn)?),
+            2 if number < 1024 => Record::Cancel(number),
+            3 if number < 64 => Record::Report(number as u8),
+            _ => return Err(Fault::new(Refusal::BadRecord, Part::Tape, self.at)),
+        };
+        self.at += record.size();
+        Ok(Some(record))
     }
 }

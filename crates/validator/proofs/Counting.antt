@@ -23,11 +23,7 @@ passing_none f (suc m) h = rw (h m) (passing_none f m h)
 pub passing_at_most : (f : ℕ → Bool) (m : ℕ) → passing f m ≤ m
 unfolding passing
 passing_at_most f zero = omega arith
-passing_at_most f (suc m) = go (f m) (passing_at_most f m)
-  where
-    go : (b : Bool) → passing f m ≤ m → cond b (suc (passing f m)) (passing f m) ≤ suc m
-    go true h = omega arith
-    go false h = omega arith
+passing_at_most f (suc m) = let below = passing_at_most f m in elim (f m) as (λ b. cond b (suc (passing f m)) (passing f m) ≤ suc m) [ true ↦ omega arith | false ↦ omega arith ]
 
 -- one number more passes, and all others as before
 pub passing_more : (f g : ℕ → Bool) (m n : ℕ) → n < m → f n ≡ false → g n ≡ true → ((j : ℕ) → (j ≡ n → ⊥) → f j ≡ g j) → passing g m ≡ suc (passing f m)

@@ -1,7 +1,7 @@
 -- What becomes of a ticket number in a shift: the first call that is a right check or a cancel of it decides.
-use Rattle.std.proofs.Common.{◌≡◌, ℕ, zero, suc, ◌<◌, Bool, true, false, cond, eqb, List, [], ◌∷◌, ◌++◌, length, get_or, Ok, Err, Result, sym, refl, ap, ◌∙◌, ap₂, arith}
-use mathlib.Core.Path.{Path}
-use Rattle.std.proofs.lemmas.Bool.{eqb-true, eq-eqb}
+use Rattle.std.proofs.Common.{◌≡◌, ℕ, zero, suc, ◌<◌, cond, eqb, List, [], ◌∷◌, ◌++◌, length, get_or, Ok, Err, Result, refl, ap, ◌∙◌, ap₂, arith}
+use Rattle.std.proofs.lemmas.Bool.{eq-eqb}
+use Rattle.std.proofs.lemmas.Grind.{common_steps}
 use Rattle.fault.specs.declared.Fault.{Fault}
 use Rattle.field.specs.Fields.{Arithmetic}
 use Rattle.field.specs.Coordinates.{Layout}
@@ -30,37 +30,19 @@ first_assoc untouched g h = refl
 first_assoc (rode r) g h = refl
 first_assoc stopped g h = refl
 
-rode≢untouched : (r : ℕ) → rode r ≡ untouched → ⊥
-rode≢untouched r e = let z : ◌≡◌ {A = ℕ} 0 1 = cc in omega arith
-
-stopped≢untouched : stopped ≡ untouched → ⊥
-stopped≢untouched e = let z : ◌≡◌ {A = ℕ} 0 1 = cc in omega arith
-
-rode≢stopped : (r : ℕ) → rode r ≡ stopped → ⊥
-rode≢stopped r e = let z : ◌≡◌ {A = ℕ} 0 1 = cc in omega arith
-
 -- what a check with that answer for its ticket is to the number n
 abbrev pub checked : ℕ → Result Opened Fault → Fate
 checked n (Ok o) = cond (eqb o.number n) (rode o.route) untouched
 checked n (Err f) = untouched
 
 checked_right : (n r : ℕ) (x : Result Opened Fault) → checked n x ≡ rode r → (text : List ℕ) × (x ≡ Ok (record { number = n; route = r; text = text }))
-checked_right n r (Ok o) e = go (eqb o.number n) refl e
-  where
-    go : (b : Bool) → eqb o.number n ≡ b → cond b (rode o.route) untouched ≡ rode r → (text : List ℕ) × Path (Result Opened Fault) (Ok o) (Ok (record { number = n; route = r; text = text }))
-    go true q p =
-        let route : o.route ≡ r = cc in
-        (o.text, ap₂ (λ (x y : ℕ). Ok (record { number = x; route = y; text = o.text })) (eqb-true o.number n q) route)
-    go false q p = absurd (rode≢untouched r (sym p))
-checked_right n r (Err f) e = absurd (rode≢untouched r (sym e))
+checked_right n r (Ok o) e =
+    let same : (o.number ≡ n) × (o.route ≡ r) = grind (arith, common_steps) in
+    (o.text, ap₂ (λ (x y : ℕ). Ok (record { number = x; route = y; text = o.text })) same.0 same.1)
+checked_right n r (Err f) e = absurd cc
 
 checked_not_stopped : (n : ℕ) (x : Result Opened Fault) → checked n x ≡ stopped → ⊥
-checked_not_stopped n (Ok o) e = go (eqb o.number n) e
-  where
-    go : (b : Bool) → cond b (rode o.route) untouched ≡ stopped → ⊥
-    go true q = rode≢stopped _ q
-    go false q = stopped≢untouched (sym q)
-checked_not_stopped n (Err f) e = stopped≢untouched (sym e)
+checked_not_stopped n x e = grind (arith, common_steps)
 
 module _ {V : Type 0} (a : Arithmetic V) (l : Layout) (w : ℕ) (k : V) where
   -- what one call is to the number n
@@ -78,18 +60,11 @@ module _ {V : Type 0} (a : Arithmetic V) (l : Layout) (w : ℕ) (k : V) where
   fate_more n [] c = first_end (mark_by n c)
   fate_more n (x ∷ cs) c = ap (first (mark_by n x)) (fate_more n cs c) ∙ first_assoc (mark_by n x) (fate n cs) (mark_by n c)
 
-  cancel_or_not : (n m : ℕ) (f : Fate) → cond (eqb m n) stopped untouched ≡ f → (r : ℕ) → f ≡ rode r → ⊥
-  cancel_or_not n m f e r q = go (eqb m n) (e ∙ q)
-    where
-      go : (b : Bool) → cond b stopped untouched ≡ rode r → ⊥
-      go true p = rode≢stopped r (sym p)
-      go false p = rode≢untouched r (sym p)
-
   -- a call by which the number rides is a right check of it, and the other way round
   rides_right : (n r : ℕ) (c : Call) → mark_by n c ≡ rode r → Right a l w k c n r
   rides_right n r (check t p) q = checked_right n r (ticket_answer a l w (a.meaning k) p t) q
-  rides_right n r (cancel m) q = cancel_or_not n m _ refl r q
-  rides_right n r (report s) q = rode≢untouched r (sym q)
+  rides_right n r (cancel m) q = grind (arith, common_steps)
+  rides_right n r (report s) q = cc
 
   right_rides : (n r : ℕ) (c : Call) → Right a l w k c n r → mark_by n c ≡ rode r
   right_rides n r (check t p) (text, e) = ap (checked n) e ∙ ap (λ b. cond b (rode r) untouched) (eq-eqb n n refl)
@@ -99,20 +74,16 @@ module _ {V : Type 0} (a : Arithmetic V) (l : Layout) (w : ℕ) (k : V) where
   -- a call that stops the number is a cancel of it, and the other way round
   stops_cancel : (n : ℕ) (c : Call) → mark_by n c ≡ stopped → c ≡ cancel n
   stops_cancel n (check t p) q = absurd (checked_not_stopped n (ticket_answer a l w (a.meaning k) p t) q)
-  stops_cancel n (cancel m) q = go (eqb m n) refl q
-    where
-      go : (b : Bool) → eqb m n ≡ b → cond b stopped untouched ≡ stopped → cancel m ≡ cancel n
-      go true e p = ap cancel (eqb-true m n e)
-      go false e p = absurd (stopped≢untouched (sym p))
-  stops_cancel n (report s) q = absurd (stopped≢untouched (sym q))
+  stops_cancel n (cancel m) q = let same : m ≡ n = grind (arith, common_steps) in ap cancel same
+  stops_cancel n (report s) q = absurd cc
 
   cancel_stops : (n : ℕ) → mark_by n (cancel n) ≡ stopped
   cancel_stops n = ap (λ b. cond b stopped untouched) (eq-eqb n n refl)
 
   untouched_quiet : (n : ℕ) (c : Call) → mark_by n c ≡ untouched → Quiet a l w k c n
   untouched_quiet n c q = (
-    λ r x. rode≢untouched r (sym (right_rides n r c x) ∙ q),
-    λ x. stopped≢untouched (sym (ap (mark_by n) x ∙ cancel_stops n) ∙ q),
+    λ r x. let rides = right_rides n r c x in cc,
+    λ x. let stops = ap (mark_by n) x ∙ cancel_stops n in cc,
   )
 
   quiet_untouched : (n : ℕ) (c : Call) → Quiet a l w k c n → mark_by n c ≡ untouched
@@ -125,7 +96,7 @@ module _ {V : Type 0} (a : Arithmetic V) (l : Layout) (w : ℕ) (k : V) where
 
   pub fate_rode : (n r : ℕ) (cs : List Call) → fate n cs ≡ rode r → Rode a l w k cs n r
   unfolding fate
-  fate_rode n r [] q = absurd (rode≢untouched r (sym q))
+  fate_rode n r [] q = absurd cc
   fate_rode n r (c ∷ cs) q = go (mark_by n c) refl q (fate_rode n r cs)
     where
       before : (i : ℕ) → mark_by n c ≡ untouched → ((j : ℕ) → j < i → Quiet a l w k (get_or cs j (report 0)) n) → (j : ℕ) → j < suc i → Quiet a l w k (get_or (c ∷ cs) j (report 0)) n
@@ -135,7 +106,7 @@ module _ {V : Type 0} (a : Arithmetic V) (l : Layout) (w : ℕ) (k : V) where
       go : (f : Fate) → mark_by n c ≡ f → first f (fate n cs) ≡ rode r → (fate n cs ≡ rode r → Rode a l w k cs n r) → Rode a l w k (c ∷ cs) n r
       go untouched u p rest = let (i, m, x, y) = rest p in (suc i, omega arith, x, before i u y)
       go (rode s) u p rest = (zero, omega arith, rides_right n r c (u ∙ p), λ j m. absurd (omega arith))
-      go stopped u p rest = absurd (rode≢stopped r (sym p))
+      go stopped u p rest = absurd cc
 
   pub rode_fate : (n r : ℕ) (cs : List Call) → Rode a l w k cs n r → fate n cs ≡ rode r
   unfolding fate

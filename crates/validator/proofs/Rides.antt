@@ -16,7 +16,7 @@ use Rattle.validator.specs.declared.Event.TheVariants.{Check, Cancel}
 use Rattle.validator.specs.declared.Validator.{Validator}
 use Rattle.validator.specs.Calls.{Call, check, cancel, report, next_mark_of, blank as blank_validator, marked, ridden, ticket_number_of, number_answer, report_answer, after_check, after_cancel, after}
 use Rattle.validator.specs.Shifts.{Rides, Reached, begun, called, ReportsItsRides}
-use Rattle.validator.proofs.Numbers.{refused_gives_nothing, number_known, right_number}
+use Rattle.validator.proofs.Numbers.{number_known, right_number}
 use Rattle.validator.proofs.Counting.{passing, passing_same, passing_none, passing_at_most, passing_more, passing_counts}
 use Rattle.validator.proofs.Fates.{Fate, untouched, rode, stopped, first, first_end, checked, mark_by, fate, fate_more, fate_rode, rode_fate}
 
@@ -33,8 +33,8 @@ is_ride r stopped = false
 
 was_untouched : (f : Fate) → mark_of f ≡ Blank → f ≡ untouched
 was_untouched untouched e = refl
-was_untouched (rode r) e = let z : ◌≡◌ {A = ℕ} 0 1 = cc in absurd (omega arith)
-was_untouched stopped e = let z : ◌≡◌ {A = ℕ} 0 1 = cc in absurd (omega arith)
+was_untouched (rode r) e = cc
+was_untouched stopped e = cc
 
 -- a number that has ridden or is cancelled stays so
 settled : (f g : Fate) → (mark_of f ≡ Blank → ⊥) → first f g ≡ f
@@ -43,8 +43,8 @@ settled (rode r) g d = refl
 settled stopped g d = refl
 
 not_blank : (m : Mark) → (m ≡ Ridden) ⊎ (m ≡ Cancelled) → m ≡ Blank → ⊥
-not_blank m (inl x) y = let z : ◌≡◌ {A = ℕ} 0 1 = cc in omega arith
-not_blank m (inr x) y = let z : ◌≡◌ {A = ℕ} 0 1 = cc in omega arith
+not_blank m (inl x) y = cc
+not_blank m (inr x) y = cc
 
 one_more : (c t : ℕ) → c ≡ t → t ≤ 1024 → min (c + 1) 65535 ≡ suc t
 one_more c t x y = omega arith
@@ -180,7 +180,7 @@ module _ {V : Type 0} (a : Arithmetic V) (l : Layout) (w : ℕ) (k : V) where
     nowhere x q j = go of_ticket refl
       where
         go : (y : Result Opened Fault) → of_ticket ≡ y → checked j y ≡ untouched
-        go (Ok o) e = absurd (refused_gives_nothing x o.number (sym q ∙ (right_number a l w t p (a.meaning k) o e).0))
+        go (Ok o) e = let known = (right_number a l w t p (a.meaning k) o e).0 in cc
         go (Err y) e = refl
 
     by_ticket : (n : ℕ) → number_answer a l w t p ≡ Ok n → get_or v.marks n Blank ≡ Blank → (x : Result Opened Fault) → of_ticket ≡ x → Fits (cs ++ check t p ∷ []) (after_check v n (then x (λ o. Ok o.route)))
@@ -231,12 +231,12 @@ module _ {V : Type 0} (a : Arithmetic V) (l : Layout) (w : ℕ) (k : V) where
       rw (f.count r m) (passing_counts _ _ (λ n q. fate_rode a l w k n r cs (was_ride _ q)) (λ n q x. no_ride _ (ap (is_ride r) (rode_fate a l w k n r cs x)) q) 1024)
     where
       was_ride : (g : Fate) → is_ride r g ≡ true → g ≡ rode r
-      was_ride untouched q = let z : ◌≡◌ {A = ℕ} 0 1 = cc in absurd (omega arith)
+      was_ride untouched q = absurd cc
       was_ride (rode s) q = ap rode (eqb-true s r q)
-      was_ride stopped q = let z : ◌≡◌ {A = ℕ} 0 1 = cc in absurd (omega arith)
+      was_ride stopped q = absurd cc
 
       no_ride : (b : Bool) → b ≡ eqb r r → b ≡ false → ⊥
-      no_ride b x y = let same = eq-eqb r r refl in let z : ◌≡◌ {A = ℕ} 0 1 = cc in omega arith
+      no_ride b x y = let same = eq-eqb r r refl in cc
 
   pub reached_rides : (v : Validator V) (r : ℕ) (cs : List Call) → Reached a l w k cs v → r < 64 → (c : ℕ) × (report_answer v r ≡ Ok c) × Rides a l w k cs r c
   reached_rides v r cs reached m = (get_or v.counts r 0, ap (λ b. cond b (Ok (get_or v.counts r 0)) (Err (fault 17 part.Call 0))) (lt-ltb r 64 m), counts_rides (fits_reached reached) r m)

@@ -61,6 +61,11 @@ module _ {V : Type 0} where
   after_cancel v number (Ok mark) = marked v number mark
   after_cancel v number (Err f) = v
 
+-- A validator that is made from what reading its key answered: a blank one with that key, or the refusal.
+abbrev pub IsBlankWith : {V : Type 0} → Arithmetic V → Result (List ℕ) Fault → Result (Validator V) Fault → Type 0
+IsBlankWith a key (Ok v) = (v ≡ blank v.key) × (key ≡ Ok (a.meaning v.key))
+IsBlankWith a key (Err f) = key ≡ Err f
+
 module _ {V : Type 0} (a : Arithmetic V) (l : Layout) (w : ℕ) where
   -- A validator that is made from an encoded key in a place: a blank one with that key; a refusal leaves the place alone.
   abbrev pub Placed : Result (List ℕ) Fault → Option (Validator V) → Option (Validator V) → Type 0

@@ -1,30 +1,31 @@
-use Rattle.std.proofs.Common.{◌≡◌, ℕ, ◌-◌, length, take, replicate, Ok, sym, refl, ap, ◌∙◌, subst, arith}
-use Rattle.std.proofs.lemmas.List.{length-take-le}
-use Rattle.field.specs.Coordinates.{Built}
-use Rattle.coding.specs.Encoding.{encoded_size_of, encoded, standing, decoded, read_answer}
-use Rattle.coding.proofs.RoundTrips.{Below, decoded_encodes, decoded_coefficients}
-use Rattle.coding.proofs.Decoding.{built_has, decoded_by_answer}
+use Rattle.std.proofs.Common.{rules, ◌≡◌, Ok, Err, sym, ap, ◌∙◌}
+use Rattle.std.proofs.lemmas.Result.{err_from_is_err_and}
+use Rattle.field.specs.Coordinates.{coefficients}
+use Rattle.coding.specs.Encoding.{decoded, standing}
+use Rattle.coding.proofs.RoundTrips.{decoded_encodes}
+use Rattle.coding.proofs.Decoding.{decoded_refused, mapped_error}
 use Rattle.coding.proofs.values.decode.Goals as goal
+
+pub returns-in_err-value-clause-answer : goal.returns-in_err-value-clause-answer
+returns-in_err-value-clause-answer g c =
+    let l = g.F.Coordinates.layout in
+    let w = g.F.CodedField.bits in
+    let bytes = c.args.bytes.now in
+    let mapped = mapped_error _ c.from_coefficients.result c.map_err.result c.in_err-value.field-0.0 c.map_err.ensures.cases c.in_err-value.was in
+    let with_part : c.in_err-value.field-0.0 ≡ record mapped.0 { part = c.args.part } = search rules in
+    let left = err_from_is_err_and c.from_residual.result c.from_residual.ensures.1 in
+    let read : coefficients l c.numbers.result.now ≡ Err mapped.0 = rw mapped.1 at c.from_coefficients.ensures in
+    let row : c.numbers.result.now ≡ standing w l.count bytes = search rules in
+    let refused = decoded_refused l w c.args.part bytes mapped.0 (search rules) (rw row at read) in
+    rw left.1 (refused ∙ ap Err (sym (left.2 ∙ with_part)))
 
 pub returns : goal.returns
 returns g c =
-    let a = g.F.Field.arithmetic in
     let l = g.F.Coordinates.layout in
     let w = g.F.CodedField.bits in
-    let limits = g.met.F.CodedField.limits in
-    let part = c.args.part in
-    let bytes = c.args.bytes.now in
-    let xs = standing w l.count bytes in
-    let long : length {A = ℕ} (take (c.count-count.result - 0) (replicate 64 0)) ≡ l.count =
-    length-take-le (c.count-count.result - 0) (replicate 64 0) (omega (arith, limits.count_to)) ∙ omega arith in
-    let read = c.in_ok-read_coefficients.ensures in
-    let answer : read_answer part bytes w l.modulus l.count ≡ Ok tt = rw (c.width.ensures, c.modulus.ensures, long) at (sym read.answer) in
-    let whole : length bytes ≡ encoded_size_of w l.count = c.if-bytes-encoded_size.false ∙ c.encoded_size.ensures in
-    let given : decoded l w part bytes ≡ Ok xs = decoded_by_answer l w part bytes whole answer in
-    let row : c.read_coefficients.new.out ≡ xs = rw (c.width.ensures, long) at (read.value refl) in
-    let built = built_has a l xs (decoded_coefficients l w limits part bytes xs given) c.from_coefficients.result (subst (λ t. Built a l t c.from_coefficients.result) row c.from_coefficients.ensures) in
-    let below : Below 256 bytes = λ i h. (c.type_inv.bytes i).fits in
-    rw built.1 (record {
-      answer = given ∙ ap Ok (sym built.2);
-      encodes_back = ap (encoded w l.count) built.2 ∙ decoded_encodes l w limits part bytes xs below given;
-    })
+    let xs = l.by_power (g.F.Field.arithmetic.meaning c.in_ok-value.value) in
+    let given : decoded l w c.args.part c.args.bytes.now ≡ Ok xs = search rules in
+    record {
+      answer = given;
+      encodes_back = decoded_encodes l w g.met.F.CodedField.limits c.args.part c.args.bytes.now xs (λ i h. (c.type_inv.bytes i).fits) given;
+    }

@@ -1,43 +1,30 @@
-use Rattle.std.proofs.Common.{◌≡◌, ℕ, Err, sym, ap, ◌∙◌, arith}
-use Rattle.std.proofs.lemmas.Result.{err_from_is_err_and}
-use Rattle.tag.specs.Bodies.{Opened}
-use Rattle.tag.proofs.Reading.{pad_refused, tag_refused, tag_right, tag_false}
+use Rattle.std.proofs.Common.{◌≡◌, ◌-◌, length, sym, ap, ◌∙◌, arith, cond, Ok, Err}
+use Rattle.std.specs.Cmp.Lexicographic.{bytes_decides}
+use Rattle.std.proofs.lemmas.Bool.Decides.{same_from_decides}
+use Rattle.fault.specs.declared.Part.TheVariants.{Call}
+use Rattle.fault.specs.Faults.{fault}
+use Rattle.coding.specs.Encoding.{encoded_size_of}
+use Rattle.tag.specs.Bodies.{parts_of}
+use Rattle.tag.specs.Tickets.{ticket_answer}
+use Rattle.tag.proofs.Reading.{ticket_compared}
+use Rattle.tag.proofs.tickets.check_ticket.Given as given
 use Rattle.tag.proofs.tickets.check_ticket.Goals as goal
+use Rattle.tag.proofs.tickets.check_ticket.Goals.{After-eq}
 
-pub returns-in_err-pad : goal.returns-in_err-pad
-returns-in_err-pad g c =
-    let a = g.F.Field.arithmetic in
+-- what the ticket answers, where `==` has compared the tag that is right with the one that the ticket claims
+compared : (g : given.Over) (c : goal.After-eq g)
+    → ticket_answer g.F.Field.arithmetic g.F.Coordinates.layout g.F.CodedField.bits (g.F.Field.arithmetic.meaning c.args.key) c.args.pads.now c.args.ticket.now
+    ≡ cond c.eq.result (Ok (parts_of c.in_ok-body.body)) (Err (fault 11 Call 0))
+compared g c =
     let l = g.F.Coordinates.layout in
     let w = g.F.CodedField.bits in
-    let o : Opened = record { number = c.in_ok-body.body.number; route = c.in_ok-body.body.route; text = c.in_ok-body.body.text.now } in
-    let p = err_from_is_err_and c.from_residual-in_err-pad.result c.from_residual-in_err-pad.ensures.1 in
-    rw (p.1, p.2) (pad_refused a l w (a.meaning c.args.key) c.args.pads.now c.args.ticket.now c.encoded_size-size.result c.encoded_size-size.ensures c.if-ticket-size.false c.if-ticket-size-2.false o c.in_ok-body.ensures _ c.in_err-pad.ensures)
+    let end : c.in-Some.end ≡ length c.args.ticket.now - encoded_size_of w l.count = omega arith in
+    let as_read = ticket_compared g.F.Field.arithmetic l w _ c.args.pads.now c.args.ticket.now c.in-Some.end _ _ _ _ _ _ end c.split_at.ensures.front c.split_at.ensures.back c.in_ok-body.ensures c.in_ok-pad.ensures c.in_ok-claimed.ensures.answer c.in_ok-right.ensures.answer in
+    let same = same_from_decides _ _ (bytes_decides _ _) (g.met.F.Field.equal_by_meaning c.in_ok-right.right c.in_ok-claimed.claimed) in
+    as_read ∙ rw (g.met.F.Coordinates.coordinates.told_back c.in_ok-claimed.claimed, same, c.eq.ensures)
 
-pub returns-in_err-claimed : goal.returns-in_err-claimed
-returns-in_err-claimed g c =
-    let a = g.F.Field.arithmetic in
-    let l = g.F.Coordinates.layout in
-    let w = g.F.CodedField.bits in
-    let o : Opened = record { number = c.in_ok-body.body.number; route = c.in_ok-body.body.route; text = c.in_ok-body.body.text.now } in
-    let p = err_from_is_err_and c.from_residual-in_err-claimed.result c.from_residual-in_err-claimed.ensures.1 in
-    rw (p.1, p.2) (tag_refused a l w (a.meaning c.args.key) c.args.pads.now c.args.ticket.now c.encoded_size-size.result c.encoded_size-size.ensures c.if-ticket-size.false c.if-ticket-size-2.false o c.in_ok-body.ensures (a.meaning c.in_ok-pad.pad) c.in_ok-pad.ensures _ c.in_err-claimed.ensures.answer)
+pub returns-then-eq : goal.returns-then-eq
+returns-then-eq g c = let told = compared g (goal.at.returns-then-eq g c).After-eq in rw c.if-eq.true at told
 
-pub returns-then-same : goal.returns-then-same
-returns-then-same g c =
-    let a = g.F.Field.arithmetic in
-    let l = g.F.Coordinates.layout in
-    let w = g.F.CodedField.bits in
-    let o : Opened = record { number = c.in_ok-body.body.number; route = c.in_ok-body.body.route; text = c.in_ok-body.body.text.now } in
-    let claimed = g.met.F.Coordinates.coordinates.told_back c.in_ok-claimed.claimed in
-    tag_right a l w (a.meaning c.args.key) c.args.pads.now c.args.ticket.now c.encoded_size-size.result c.encoded_size-size.ensures c.if-ticket-size.false c.if-ticket-size-2.false o c.in_ok-body.ensures (a.meaning c.in_ok-pad.pad) c.in_ok-pad.ensures _ _ c.in_ok-claimed.ensures.answer c.in_ok-right.ensures.answer (c.same.ensures.0 c.if-same.true ∙ sym claimed)
-
-pub returns-else-same : goal.returns-else-same
-returns-else-same g c =
-    let a = g.F.Field.arithmetic in
-    let l = g.F.Coordinates.layout in
-    let w = g.F.CodedField.bits in
-    let o : Opened = record { number = c.in_ok-body.body.number; route = c.in_ok-body.body.route; text = c.in_ok-body.body.text.now } in
-    let claimed = g.met.F.Coordinates.coordinates.told_back c.in_ok-claimed.claimed in
-    tag_false a l w (a.meaning c.args.key) c.args.pads.now c.args.ticket.now c.encoded_size-size.result c.encoded_size-size.ensures c.if-ticket-size.false c.if-ticket-size-2.false o c.in_ok-body.ensures (a.meaning c.in_ok-pad.pad) c.in_ok-pad.ensures _ _ c.in_ok-claimed.ensures.answer c.in_ok-right.ensures.answer
-    (λ e. let yes_same = c.same.ensures.1 (e ∙ claimed) in let not_same = c.if-same.false in let z : ◌≡◌ {A = ℕ} 0 1 = cc in omega arith)
-    ∙ ap Err (sym c.of_call-else-same.ensures)
+pub returns-else-eq : goal.returns-else-eq
+returns-else-eq g c = let refused = compared g (goal.at.returns-else-eq g c).After-eq in rw c.if-eq.false at refused ∙ ap Err (sym c.of_call-else-eq.ensures)

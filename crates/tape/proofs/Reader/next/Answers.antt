@@ -1,25 +1,39 @@
-use Rattle.std.proofs.Common.{rules}
 use Rattle.tape.proofs.Readings.{reading_is_whole}
 use Rattle.tape.proofs.Standing.{reads_what_stands}
 use Rattle.tape.proofs.Reader.next.Goals as goal
 
-pub returns-then-at-tape : goal.returns-then-at-tape
-returns-then-at-tape c = record { answer = search rules; at = search rules; tape = search rules; what_stands = reads_what_stands _ _; whole = reading_is_whole _ _ }
+pub returns-in_default-clause-what_stands : goal.returns-in_default-clause-what_stands
+returns-in_default-clause-what_stands c = reads_what_stands _ _
 
-pub returns-then-left-lt2 : goal.returns-then-left-lt2
-returns-then-left-lt2 c = record { answer = search rules; at = search rules; tape = search rules; what_stands = reads_what_stands _ _; whole = reading_is_whole _ _ }
+pub returns-in_default-clause-whole : goal.returns-in_default-clause-whole
+returns-in_default-clause-whole c = reading_is_whole _ _
 
-pub returns-then-left-size : goal.returns-then-left-size
-returns-then-left-size c = record { answer = search rules; at = search rules; tape = search rules; what_stands = reads_what_stands _ _; whole = reading_is_whole _ _ }
+pub returns-in-empty-clause-what_stands : goal.returns-in-empty-clause-what_stands
+returns-in-empty-clause-what_stands c = reads_what_stands _ _
 
-pub returns-else-left-size : goal.returns-else-left-size
-returns-else-left-size c = record { answer = search rules; at = search rules; tape = search rules; what_stands = reads_what_stands _ _; whole = reading_is_whole _ _ }
+pub returns-in-empty-clause-whole : goal.returns-in-empty-clause-whole
+returns-in-empty-clause-whole c = reading_is_whole _ _
 
-pub returns-in-2 : goal.returns-in-2
-returns-in-2 c = record { answer = search rules; at = search rules; tape = search rules; what_stands = reads_what_stands _ _; whole = reading_is_whole _ _ }
+pub returns-in-len1-clause-what_stands : goal.returns-in-len1-clause-what_stands
+returns-in-len1-clause-what_stands c = reads_what_stands _ _
 
-pub returns-in-3 : goal.returns-in-3
-returns-in-3 c = record { answer = search rules; at = search rules; tape = search rules; what_stands = reads_what_stands _ _; whole = reading_is_whole _ _ }
+pub returns-in-len1-clause-whole : goal.returns-in-len1-clause-whole
+returns-in-len1-clause-whole c = reading_is_whole _ _
 
-pub returns-in_default : goal.returns-in_default
-returns-in_default c = record { answer = search rules; at = search rules; tape = search rules; what_stands = reads_what_stands _ _; whole = reading_is_whole _ _ }
+pub returns-in_err-ok_or-in-1-clause-what_stands : goal.returns-in_err-ok_or-in-1-clause-what_stands
+returns-in_err-ok_or-in-1-clause-what_stands c = reads_what_stands _ _
+
+pub returns-in_err-ok_or-in-1-clause-whole : goal.returns-in_err-ok_or-in-1-clause-whole
+returns-in_err-ok_or-in-1-clause-whole c = reading_is_whole _ _
+
+pub returns-in_default-2-clause-what_stands : goal.returns-in_default-2-clause-what_stands
+returns-in_default-2-clause-what_stands c = reads_what_stands _ _
+
+pub returns-in_default-2-clause-whole : goal.returns-in_default-2-clause-whole
+returns-in_default-2-clause-whole c = reading_is_whole _ _
+
+pub returns-clause-what_stands : goal.returns-clause-what_stands
+returns-clause-what_stands c = reads_what_stands _ _
+
+pub returns-clause-whole : goal.returns-clause-whole
+returns-clause-whole c = reading_is_whole _ _

@@ -1,10 +1,12 @@
-use Rattle.std.proofs.Common.{ℕ, ◌≤◌, subst}
-use Rattle.field.specs.Coordinates.{below_before}
+use Rattle.std.proofs.Common.{◌≡◌, Ok, sym, ap, ◌∙◌, rules}
+use Rattle.polynomial.specs.Polynomials.{eight_remainders}
 use Rattle.polynomial.proofs.Building.{eight_taken}
 use Rattle.polynomial.proofs.basis.PolynomialBasisCoordinates.from_coefficients.Goals as goal
 
-pub returns : goal.returns
-returns g c =
+pub returns-in-None : goal.returns-in-None
+returns-in-None g c =
+    let q = g.M.Modulus.Q in
     let xs = c.args.coefficients.now in
-    let below = subst (λ (n : ℕ). 8 ≤ n) c.count_below-power.ensures c.if-power-lt8.false in
-    eight_taken g.M.Modulus.q xs c.if-coefficients-ne8.false (subst (λ (q : ℕ). 8 ≤ below_before q xs) c.modulus.ensures below)
+    let whole : c.in-Ok.kept ≡ xs = search rules in
+    let first = rw (c.modulus.ensures, whole) at c.first_from.ensures in
+    eight_taken q xs (search rules) (sym first ∙ c.in-None.is) ∙ ap (λ ys. Ok (eight_remainders q ys)) (sym (c.keeping.ensures ∙ whole))

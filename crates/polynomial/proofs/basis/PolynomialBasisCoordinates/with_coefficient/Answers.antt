@@ -5,7 +5,7 @@ use Rattle.polynomial.proofs.basis.PolynomialBasisCoordinates.with_coefficient.G
 
 pub returns : goal.returns
 returns g c =
-    let q = g.M.Modulus.q in
+    let q = g.M.Modulus.Q in
     let xs = c.args.self.kept in
-    let below : c.args.coefficient < q = rw c.modulus.ensures at c.if-coefficient-modulus.false in
-    (below, eight_set q xs c.args.power c.args.coefficient (search rules) ∙ ap (set (eight_remainders q xs) c.args.power) (mod-eq_of_lt below))
+    let below : c.args.coefficient < q = search rules in
+    (below, ap (eight_remainders q) c.keeping.ensures ∙ eight_set q xs c.args.power c.args.coefficient (search rules) ∙ ap (set (eight_remainders q xs) c.args.power) (mod-eq_of_lt below))
