@@ -130,6 +130,14 @@ impl Command<'_> {
         }
     }
 
+    // The coefficients that the argument at a place lists, and none where there is no such argument.
+    pub(crate) fn list(self, place: usize) -> Result<Vec<u16>, Problem> {
+        match self.arguments.get(place) {
+            Some(word) => forms::coefficients(self.heap, word),
+            None => Ok(Vec::new(self.heap)),
+        }
+    }
+
     // The value that is the only argument.
     pub(crate) fn value<F: Coordinates>(self) -> Result<F, Problem> {
         let [word] = self.arguments else {
@@ -140,16 +148,23 @@ impl Command<'_> {
     }
 }
 
-// The answer to a line with its end; nothing to an empty line or a comment.
+// Adds the answer to a line, with its end; nothing for an empty line or a comment.
 // The desk of tickets has these arms too, over its own problems: a trait for both would be longer than they are.
-pub(crate) fn answer(heap: Global, line: &Line<LONGEST_LINE>) -> Result<String, AllocError> {
+pub(crate) fn answer(
+    heap: Global,
+    line: &Line<LONGEST_LINE>,
+    answers: &mut String,
+) -> Result<(), AllocError> {
     match reply(heap, line) {
-        Ok(None) => Ok(String::new(heap)),
-        Ok(Some(text)) => format!(in heap; "{text}\n"),
+        Ok(None) => Ok(()),
+        Ok(Some(text)) => {
+            answers.push_str(&text)?;
+            answers.push('\n')
+        }
         Err(Problem::OutOfMemory(error) | Problem::Misread(Misreading::OutOfMemory(error))) => {
             Err(error)
         }
-        Err(problem) => format!(in heap; "{problem}\n"),
+        Err(problem) => writeln!(answers, "{problem}"),
     }
 }
 

@@ -133,28 +133,21 @@ pub(crate) fn answer<F: Coordinates>(command: Command<'_>) -> Result<String, Pro
     }
 }
 
-// All arguments are understood before the first value is built.
+// All arguments are understood before the first value is built: there are two at most, so they need no vector.
 fn operation<F: Coordinates>(command: Command<'_>) -> Result<Operation<F>, Problem> {
-    let Command {
-        heap,
-        form: Form { kind, .. },
-        verb,
-        arguments,
-    } = command;
-    let lists: Vec<Vec<u16>> = arguments
-        .iter()
-        .map(|word| coefficients(heap, word))
-        .try_collect(heap)?;
-    Ok(match (verb, lists.as_slice()) {
-        (Verb::Add, [a, b]) => Operation::Add(kind.value(a)?, kind.value(b)?),
-        (Verb::Neg, [a]) => Operation::Neg(kind.value(a)?),
-        (Verb::Mul, [a, b]) => Operation::Mul(kind.value(a)?, kind.value(b)?),
-        (Verb::Square, [a]) => Operation::Square(kind.value(a)?),
-        (Verb::Inverse, [a]) => Operation::Inverse(kind.value(a)?),
-        (Verb::NonResidue, []) => Operation::NonResidue,
-        (Verb::ByNonResidue, [a]) => Operation::ByNonResidue(kind.value(a)?),
-        (Verb::SqrtMinusOne, []) => Operation::SqrtMinusOne,
-        (Verb::Same, [a, b]) => Operation::Same(kind.value(a)?, kind.value(b)?),
+    let kind = command.form.kind;
+    let first = command.list(0)?;
+    let second = command.list(1)?;
+    Ok(match command.verb {
+        Verb::Add => Operation::Add(kind.value(&first)?, kind.value(&second)?),
+        Verb::Neg => Operation::Neg(kind.value(&first)?),
+        Verb::Mul => Operation::Mul(kind.value(&first)?, kind.value(&second)?),
+        Verb::Square => Operation::Square(kind.value(&first)?),
+        Verb::Inverse => Operation::Inverse(kind.value(&first)?),
+        Verb::NonResidue => Operation::NonResidue,
+        Verb::ByNonResidue => Operation::ByNonResidue(kind.value(&first)?),
+        Verb::SqrtMinusOne => Operation::SqrtMinusOne,
+        Verb::Same => Operation::Same(kind.value(&first)?, kind.value(&second)?),
         _ => return Err(Problem::NoSuchOperation),
     })
 }

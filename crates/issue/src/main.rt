@@ -6,27 +6,41 @@ mod orders;
 mod problems;
 
 use desk::{Desk, LONGEST_LINE};
-use std::io::{BufReader, Read, Write};
+use std::io::{Read, Write};
 use wording::Line;
 
 fn main(rt: HostRuntime) -> anyhow::Result<()> {
     let heap = rt.alloc();
+    let mut input = rt.stdin();
     let mut output = rt.stdout();
     let mut desk = Desk::new();
     let mut line: Line<LONGEST_LINE> = Line::new(heap);
+    let mut chunk = [0u8; 4096];
     // Both programs of lines have this loop: shared, it would be a public function, and no contract can say what it reads and
-    // writes.
-    for byte in BufReader::new(heap, rt.stdin())?.bytes() {
-        match byte? {
-            b'\n' => {
-                output.write_all(desk.take(heap, &line)?.as_bytes())?;
-                line.clear();
-            }
-            byte => line.push(byte)?,
+    // writes. What came in one read is answered by one write, before the next read.
+    for _ in 0..u64::MAX {
+        let count = input.read(&mut chunk)?;
+        if count == 0 {
+            break;
         }
+        let mut answers = String::new(heap);
+        let mut pieces = chunk[..count].split(|byte| *byte == b'\n');
+        if let Some(rest) = pieces.next() {
+            line.extend(rest)?;
+        }
+        for start in pieces {
+            desk.take(heap, &line, &mut answers)?;
+            line.clear();
+            if !start.is_empty() {
+                line.extend(start)?;
+            }
+        }
+        output.write_all(answers.as_bytes())?;
     }
     // the last line may lack its newline
-    output.write_all(desk.take(heap, &line)?.as_bytes())?;
-    output.write_all(desk.tally(heap)?.as_bytes())?;
+    let mut last = String::new(heap);
+    desk.take(heap, &line, &mut last)?;
+    last.push_str(&desk.tally(heap)?)?;
+    output.write_all(last.as_bytes())?;
     Ok(())
 }

@@ -172,14 +172,15 @@ impl<M: Modulus> Coordinates for PolynomialBasis<M> {
         Ok(Self::keeping(kept))
     }
 
-    // All eight at once, where the provided function would build as many values.
+    // All eight at once, where the provided function would build as many values. One by one and not by `try_from`: copied in
+    // pieces of other sizes, they cannot be read as one vector at once.
     fn from_coefficients(coefficients: &[u16]) -> Result<Self, Fault> {
-        let Ok(kept) = <[u16; 8]>::try_from(coefficients) else {
+        let &[a, b, c, d, e, f, g, h] = coefficients else {
             return Err(Fault::of_call(Refusal::WrongSize));
         };
-        match first_from(&kept, M::modulus()) {
+        match first_from(coefficients, M::modulus()) {
             Some(power) => Err(Fault::new(Refusal::CoefficientOutOfRange, Part::Call, power)),
-            None => Ok(Self::keeping(kept)),
+            None => Ok(Self::keeping([a, b, c, d, e, f, g, h])),
         }
     }
 }

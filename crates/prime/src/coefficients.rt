@@ -26,19 +26,15 @@ pub type ShortTower<M> = Quadratic<Coefficient<M>>;
 pub type LongTower<M> = Quadratic<Quadratic<Quadratic<Coefficient<M>>>>;
 
 impl<M: Modulus> Coefficient<M> {
-    fn keeping(kept: u16) -> Self
-        ensures { result.kept ≡ kept }
-    {
-        Coefficient {
-            kept,
-            modulus: PhantomData,
-        }
-    }
-
+    // What a number leaves. Other values are built in place: by one function for all of them, or by `from_coefficients` in
+    // `new`, the compiler no longer knows that a sum is below the modulus, and divides again in an inverse.
     fn reduced(number: u32) -> Self
         ensures { result.kept ≡ number % M.Q }
     {
-        Coefficient::keeping((number % M::modulus() as u32) as u16)
+        Coefficient {
+            kept: (number % M::modulus() as u32) as u16,
+            modulus: PhantomData,
+        }
     }
 
     // The coefficient of that number, which is refused with 1 where it is not below the modulus. As `try_from` it would
@@ -46,7 +42,14 @@ impl<M: Modulus> Coefficient<M> {
     pub fn new(number: u16) -> Result<Self, Fault>
         ensures { Built (coefficient_field M.Q M.ROOT) (residue_layout M.Q) (just number) result }
     {
-        Self::from_coefficients(&[number])
+        if number < M::modulus() {
+            Ok(Coefficient {
+                kept: number,
+                modulus: PhantomData,
+            })
+        } else {
+            Err(Fault::of_call(Refusal::CoefficientOutOfRange))
+        }
     }
 
     // The coefficient as a number below the modulus; the name says more than `u16::from` would.
@@ -77,11 +80,17 @@ impl<M: Modulus> Field for Coefficient<M> {
     ghost equal_by_meaning = { residues_equal_by_meaning M.Q M.ROOT (λ x. x.kept) };
 
     fn zero() -> Self {
-        Coefficient::keeping(0)
+        Coefficient {
+            kept: 0,
+            modulus: PhantomData,
+        }
     }
 
     fn one() -> Self {
-        Coefficient::keeping(1)
+        Coefficient {
+            kept: 1,
+            modulus: PhantomData,
+        }
     }
 
     fn add(self, other: Self) -> Self {
@@ -90,7 +99,10 @@ impl<M: Modulus> Field for Coefficient<M> {
 
     fn neg(self) -> Self {
         let q = M::modulus();
-        Coefficient::keeping((q - self.kept % q) % q)
+        Coefficient {
+            kept: (q - self.kept % q) % q,
+            modulus: PhantomData,
+        }
     }
 
     fn mul(self, other: Self) -> Self {
@@ -105,12 +117,18 @@ impl<M: Modulus> Field for Coefficient<M> {
         if self.number() == 0 {
             Err(Fault::of_call(Refusal::ZeroHasNoInverse))
         } else {
-            Ok(Coefficient::keeping(M::inverse_entry(self.kept)))
+            Ok(Coefficient {
+                kept: M::inverse_entry(self.kept),
+                modulus: PhantomData,
+            })
         }
     }
 
     fn non_residue() -> Self {
-        Coefficient::keeping(2)
+        Coefficient {
+            kept: 2,
+            modulus: PhantomData,
+        }
     }
 
     fn mul_by_non_residue(self) -> Self {
@@ -118,7 +136,10 @@ impl<M: Modulus> Field for Coefficient<M> {
     }
 
     fn sqrt_minus_one() -> Self {
-        Coefficient::keeping(M::sqrt_minus_one())
+        Coefficient {
+            kept: M::sqrt_minus_one(),
+            modulus: PhantomData,
+        }
     }
 }
 
@@ -142,7 +163,10 @@ impl<M: Modulus> Coordinates for Coefficient<M> {
     fn with_coefficient(self, power: usize, coefficient: u16) -> Result<Self, Fault> {
         Self::check_range(power, coefficient)?;
         if power == 0 {
-            Ok(Coefficient::keeping(coefficient))
+            Ok(Coefficient {
+                kept: coefficient,
+                modulus: PhantomData,
+            })
         } else {
             Ok(self)
         }

@@ -6,4 +6,4 @@ mod moduli;
 mod tables;
 
 pub use coefficients::{Coefficient, LongTower, ShortTower};
-pub use moduli::{Modulus, P1021, P4093};
+pub use moduli::{Modulus, P1021, P4093, TabledModulus};

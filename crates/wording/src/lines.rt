@@ -42,6 +42,16 @@ impl<const LONGEST: u32> Line<LONGEST> {
         Ok(())
     }
 
+    // More bytes, as many as are to be kept: the same as `push` of one after the other.
+    pub fn extend(&mut self, bytes: &[u8]) -> Result<(), AllocError>
+        ensures ok { OnOk result (self.new ≡ take (LONGEST + 2) (self.old ++ bytes.now)) }
+        ensures err { OnErr result (self.new ≡ self.old) }
+    {
+        let room = 2 + LONGEST as usize - self.bytes.len();
+        self.bytes
+            .extend_from_slice(&bytes[..room.min(bytes.len())])
+    }
+
     pub fn clear(&mut self)
         ensures { self.new ≡ [] }
     {

@@ -73,3 +73,21 @@ fn messages(rt: HostRuntime) -> Result<(), Fail> {
     assert_eq!(rt; text.as_str(), "not a number, not bytes");
     Ok(())
 }
+
+#[test]
+fn more_bytes_as_one_after_the_other(rt: HostRuntime) -> Result<(), Fail> {
+    let heap = rt.alloc();
+    let mut line: Line<8> = Line::new(heap);
+    line.extend(b"prime")?;
+    line.extend(b"")?;
+    line.extend(b"-40")?;
+    assert_eq!(rt; line.text()?, Some("prime-40"));
+    line.extend(b"\r")?;
+    assert_eq!(rt; line.text()?, Some("prime-40"));
+    line.extend(b"93 neg 1")?;
+    assert_eq!(rt; line.text(), Err(Misreading::LineTooLong));
+    line.clear();
+    line.extend(b"12345678\r and more")?;
+    assert_eq!(rt; line.text(), Err(Misreading::LineTooLong));
+    Ok(())
+}

@@ -7,6 +7,5 @@ pub returns-in-None : goal.returns-in-None
 returns-in-None g c =
     let q = g.M.Modulus.Q in
     let xs = c.args.coefficients.now in
-    let whole : c.in-Ok.kept ≡ xs = search rules in
-    let first = rw (c.modulus.ensures, whole) at c.first_from.ensures in
-    eight_taken q xs (search rules) (sym first ∙ c.in-None.is) ∙ ap (λ ys. Ok (eight_remainders q ys)) (sym (c.keeping.ensures ∙ whole))
+    let first = rw c.modulus.ensures at c.first_from.ensures in
+    eight_taken q xs (search rules) (sym first ∙ c.in-None.is) ∙ ap (λ ys. Ok (eight_remainders q ys)) (sym c.keeping.ensures)

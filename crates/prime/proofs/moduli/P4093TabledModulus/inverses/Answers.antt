@@ -1,6 +1,6 @@
 use Rattle.std.proofs.Common.{refl, lit<}
 use Rattle.prime.specs.InverseTables.{inverse_table}
-use Rattle.prime.proofs.moduli.P4093Modulus.inverses.Goals as goal
+use Rattle.prime.proofs.moduli.P4093TabledModulus.inverses.Goals as goal
 
 -- the test over the whole table, computed
 pub returns : goal.returns
