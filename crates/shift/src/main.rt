@@ -9,9 +9,19 @@ use std::io::{Read, Write};
 fn main(rt: HostRuntime) -> anyhow::Result<()> {
     let heap = rt.alloc();
     let mut bytes = Vec::new(heap);
-    // one byte over the limit tells that an input is too long: no more of it is read
-    let mut input = rt.stdin().take(LONGEST_INPUT as u64 + 1);
-    input.read_to_end(&mut bytes)?;
+    let mut input = rt.stdin();
+    let mut chunk = [0u8; 4096];
+    // Every read gives a byte at least, so that no input within the limit is cut off; of a longer one no more is read.
+    for _ in 0..=LONGEST_INPUT {
+        if bytes.len() > LONGEST_INPUT {
+            break;
+        }
+        let count = input.read(&mut chunk)?;
+        if count == 0 {
+            break;
+        }
+        bytes.extend_from_slice(&chunk[..count])?;
+    }
     let lines = play::<PolynomialBasis<P4093>>(heap, &bytes)?;
     let text = page(heap, &lines)?;
     rt.stdout().write_all(text.as_bytes())?;
