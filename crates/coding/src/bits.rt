@@ -10,7 +10,7 @@ fn byte(bytes: &[u8], place: usize) -> u8
 }
 
 // Three bytes from a place on, as one number. Where all three are there, they are read after one test; by sums and not by
-// `from_be_bytes`, which the compiler turns into exchanges of bytes: a short tag then takes a third more time.
+// `from_be_bytes`, which the compiler turns into exchanges of bytes: a short tag then takes a fifth more time.
 fn window(bytes: &[u8], first: usize) -> u32
     requires { first < 2 ^ 60 }
     ensures { result ≡ slice_index bytes.now first * 65536
